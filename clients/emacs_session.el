@@ -75,6 +75,8 @@
 (do-key [f5])
 (say-answer "B" (lambda () (lab80-dap-set "B" "1")))
 (dap-breakpoint-delete-all)
+;; HLT, where it is held
+(do-key [f5])
 (let ((session (dap--cur-session)))
   (call-interactively #'lab80-dap-run)
   (wait "end" (lambda () (not (dap--session-running session))))

@@ -72,14 +72,22 @@ START:  MVI A,'!'
 
 CAPABILITIES = dict.fromkeys((
     "supportsConfigurationDoneRequest", "supportsDisassembleRequest", "supportsEvaluateForHovers",
-    "supportsFunctionBreakpoints", "supportsLoadedSourcesRequest", "supportsReadMemoryRequest", "supportsRestartRequest",
+    "supportsExceptionInfoRequest", "supportsFunctionBreakpoints", "supportsLoadedSourcesRequest", "supportsReadMemoryRequest", "supportsRestartRequest",
     "supportsSetVariable", "supportsSteppingGranularity", "supportsTerminateRequest", "supportsWriteMemoryRequest"), True)
+
+# Comes to an undefined opcode behind what it prints.
+RUNS_AWAY = """\
+START:  MVI A,'!'
+        OUT 1
+        DB 8
+        END START
+"""
 
 # A session with examples/count.asm: the requests and the answers. PATH is the program's path.
 CONVERSATION = (
     ('{"seq":1,"type":"request","command":"initialize","arguments":{"adapterID":"lab80"}}',
      '{"body":{"supportsConfigurationDoneRequest":true,"supportsDisassembleRequest":true,"supportsEvaluateForHovers":true,'
-     '"supportsFunctionBreakpoints":true,"supportsLoadedSourcesRequest":true,"supportsReadMemoryRequest":true,'
+     '"supportsExceptionInfoRequest":true,"supportsFunctionBreakpoints":true,"supportsLoadedSourcesRequest":true,"supportsReadMemoryRequest":true,'
      '"supportsRestartRequest":true,"supportsSetVariable":true,"supportsSteppingGranularity":true,'
      '"supportsTerminateRequest":true,"supportsWriteMemoryRequest":true},"command":"initialize","request_seq":1,"seq":1,'
      '"success":true,"type":"response"}'),
@@ -119,6 +127,41 @@ CONVERSATION = (
      '{"body":{},"command":"disconnect","request_seq":11,"seq":19,"success":true,"type":"response"}'),
 )
 
+# A session with RUNS_AWAY, which is held at its end, and of which the editor is told what is changed by hand.
+HELD = (
+    ('{"seq":1,"type":"request","command":"initialize","arguments":{"adapterID":"lab80","supportsInvalidatedEvent":true,'
+     '"supportsMemoryEvent":true}}',
+     CONVERSATION[0][1]),
+    ('{"seq":2,"type":"request","command":"launch","arguments":{"program":"PATH","stopAtEnd":true}}',
+     '{"body":{},"command":"launch","request_seq":2,"seq":2,"success":true,"type":"response"}',
+     '{"event":"initialized","seq":3,"type":"event"}'),
+    ('{"seq":3,"type":"request","command":"exceptionInfo","arguments":{"threadId":1}}',
+     '{"command":"exceptionInfo","message":"the program is stopped at no exception","request_seq":3,"seq":4,"success":false,'
+     '"type":"response"}'),
+    ('{"seq":4,"type":"request","command":"configurationDone"}',
+     '{"body":{},"command":"configurationDone","request_seq":4,"seq":5,"success":true,"type":"response"}',
+     '{"body":{"category":"stdout","output":"!"},"event":"output","seq":6,"type":"event"}',
+     '{"body":{"category":"stderr","output":"UndefinedOpcode: 08 at 0004\\n"},"event":"output","seq":7,"type":"event"}',
+     '{"body":{"allThreadsStopped":true,"reason":"exception","text":"UndefinedOpcode: 08 at 0004","threadId":1},"event":"stopped",'
+     '"seq":8,"type":"event"}'),
+    ('{"seq":5,"type":"request","command":"exceptionInfo","arguments":{"threadId":1}}',
+     '{"body":{"breakMode":"unhandled","description":"UndefinedOpcode: 08 at 0004","exceptionId":"UndefinedOpcode"},'
+     '"command":"exceptionInfo","request_seq":5,"seq":9,"success":true,"type":"response"}'),
+    ('{"seq":6,"type":"request","command":"setVariable","arguments":{"variablesReference":1,"name":"A","value":"1"}}',
+     '{"body":{"value":"001H"},"command":"setVariable","request_seq":6,"seq":10,"success":true,"type":"response"}',
+     '{"body":{"areas":["stacks","variables"]},"event":"invalidated","seq":11,"type":"event"}',
+     '{"body":{"count":65536,"memoryReference":"0x0000","offset":0},"event":"memory","seq":12,"type":"event"}'),
+    ('{"seq":7,"type":"request","command":"evaluate","arguments":{"expression":"A","context":"watch"}}',
+     '{"body":{"result":"001H","variablesReference":0},"command":"evaluate","request_seq":7,"seq":13,"success":true,'
+     '"type":"response"}'),
+    ('{"seq":8,"type":"request","command":"continue","arguments":{"threadId":1}}',
+     '{"body":{"allThreadsContinued":true},"command":"continue","request_seq":8,"seq":14,"success":true,"type":"response"}',
+     '{"body":{"exitCode":1},"event":"exited","seq":15,"type":"event"}',
+     '{"event":"terminated","seq":16,"type":"event"}'),
+    ('{"seq":9,"type":"request","command":"disconnect","arguments":{}}',
+     '{"body":{},"command":"disconnect","request_seq":9,"seq":17,"success":true,"type":"response"}'),
+)
+
 
 def read_exactly(stream, size):
     data = b""
@@ -129,9 +172,14 @@ def read_exactly(stream, size):
 
 class Whole(Session):
     def test_a_session_to_the_byte(self):
-        path = self.count()
+        self.converse(self.count(), CONVERSATION)
+
+    def test_a_run_that_is_held_at_its_end_to_the_byte(self):
+        self.converse(self.program(RUNS_AWAY), HELD)
+
+    def converse(self, path, conversation):
         with Editor() as editor:
-            for asked, *said in CONVERSATION:
+            for asked, *said in conversation:
                 editor.say(framed(asked.replace("PATH", path).encode()))
                 wanted = b"".join(framed(message.replace("PATH", path).encode()) for message in said)
                 self.assertEqual(read_exactly(editor.process.stdout, len(wanted)), wanted)
@@ -511,6 +559,32 @@ class Boards(Session):
 
 
 class Ends(Session):
+    def test_a_run_is_held_where_it_halts(self):
+        editor = self.editor()
+        self.assertEqual(editor.run_to(self.count(), stopAtEnd=True), "step")
+        # The HLT is in the line before.
+        self.assertEqual((editor.shown(1)["PC"], editor.shown(1)["B"]), ("0010BH", "000H"))
+        self.assertEqual(editor.refusal("exceptionInfo", threadId=1), "the program is stopped at no exception")
+        self.assertEqual(editor.refusal("pause", threadId=1), "no program runs")
+        editor.do("next", threadId=1)
+        self.assertEqual(editor.output_to_end(), ("", 0))
+        self.assertEqual(editor.refusal("next", threadId=1), "no program is stopped")
+        self.assertEqual(editor.shown(1)["PC"], "0010BH")
+
+    def test_a_held_run_starts_again(self):
+        editor = self.editor()
+        editor.run_to(self.program(RUNS_AWAY), stopAtEnd=True)
+        editor.do("restart")
+        self.assertEqual(editor.stop(), "exception")
+        editor.do("terminate")
+        self.assertEqual(editor.output_to_end(), ("", 1))
+
+    def test_without_debugging_no_run_is_held(self):
+        editor = self.editor()
+        editor.launch(self.program(RUNS_AWAY), noDebug=True, stopAtEnd=True)
+        editor.do("configurationDone")
+        self.assertEqual(editor.output_to_end(), ("!", 1))
+
     def test_restart_runs_the_text_as_it_stands_now(self):
         editor, path = self.editor(), self.count()
         editor.run_to(path, SHOW)

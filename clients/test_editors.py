@@ -34,13 +34,14 @@ scopes: Registers Flags Devices Symbols Memory
 registers: 033H 009H 000H 000H 000H 000H 000H 00000H 00107H
 lab80-dap-run: SHOW, line 10, cursor in line 10
 B lab80: 001H
+lab80-dap-run: main, line 10, cursor in line 10
 ended: terminated
 output: "39"
 """
 
 # Kate's requests in its session, except those for its display.
 ASKED_BY_KATE = ["initialize", "launch", "setBreakpoints", "configurationDone", "evaluate", "next", "stepOut", "stepIn", "continue",
-                 "setBreakpoints", "continue", "disconnect"]
+                 "setBreakpoints", "continue", "continue", "disconnect"]
 SHOWING = ("threads", "stackTrace", "scopes", "variables")
 
 
@@ -109,6 +110,7 @@ class Kate(Session):
                 window.picture(os.path.join(os.environ["LAB80_PICTURES"], "kate.png"))
         window.do(kate.CONTINUE, "stopped at the breakpoint again", stops(5))
         window.do(kate.BREAKPOINT, "no breakpoints", lambda: window.asked()[-1]["command"] == "setBreakpoints")
+        window.do(kate.CONTINUE, "held at its end", stops(6))
         window.choose(kate.CONTINUE)
         kate.wait_for("its end", lambda: window.asked()[-1]["command"] == "disconnect")
         self.assertEqual([it["command"] for it in window.asked() if it["command"] not in SHOWING], ASKED_BY_KATE)

@@ -30,6 +30,7 @@ The path may be that of a clone's `lab80-dap'."
       (dap--put-if-absent :dap-server-path (list lab80-dap-program))
       (dap--put-if-absent :request "launch")
       (dap--put-if-absent :name "lab80")
+      (dap--put-if-absent :stopAtEnd t)
       (dap--put-if-absent :program (or (buffer-file-name) (user-error "This buffer has no file")))))
 
 (dap-register-debug-provider "lab80" #'lab80-dap--populate)

@@ -65,6 +65,8 @@ in_outcome seq request_seq command (Refused message) = fits _ 6 refl
 
 stopped : (seq : ℕ) (s : EditorStop) → depth (stopped_json seq s) ≤ 6
 stopped seq stop.Entry = fits _ 6 refl
+stopped seq stop.Halted = fits _ 6 refl
+stopped seq (stop.Exception u) = fits _ 6 refl
 stopped seq (stop.Board reason) = event_is_shallow seq (board.Stopped reason)
 
 in_output : (category : OutputCategory) (bytes : List ℕ) (place : Option SourcePlace)

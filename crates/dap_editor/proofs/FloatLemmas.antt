@@ -65,6 +65,8 @@ in_outcome seq request_seq command (Refused message) = refl
 
 stopped : (seq : ℕ) (s : EditorStop) → has_float (stopped_json seq s) ≡ false
 stopped seq stop.Entry = refl
+stopped seq stop.Halted = refl
+stopped seq (stop.Exception u) = refl
 stopped seq (stop.Board reason) = event_has_no_float seq (board.Stopped reason)
 
 in_output : (category : OutputCategory) (bytes : List ℕ) (place : Option SourcePlace)

@@ -20,6 +20,7 @@ use Rattle.std.specs.Prelude.{
 }
 use Rattle.std.specs.Path.{slash, rsplit_once}
 use Rattle.base_text.specs.Bytes.{Bytes, Text}
+use Rattle.base_text.specs.Hexadecimal.{upper_byte, upper_word}
 use Rattle.base_text.specs.Latin.{latin_text}
 use Rattle.base64.specs.Engines.{standard}
 use Rattle.base64.specs.GeneralPurpose.{encode_of}
@@ -28,6 +29,7 @@ use Rattle.dap_answers.specs.declared.answer.Event.TheVariants as board
 use Rattle.dap_answers.specs.Json.{object_of, whole_number, list_of, one_list, reference, body_json}
 use Rattle.dap_answers.specs.Json.{bare_response, refusal_json, bare_event, event_with_body, event_json}
 use Rattle.dap_editor.specs.declared.message.PlacedBreakpoint.{PlacedBreakpoint}
+use Rattle.dap_editor.specs.declared.message.UndefinedOpcode.{UndefinedOpcode}
 use Rattle.dap_editor.specs.declared.message.EditorBody.{EditorBody}
 use Rattle.dap_editor.specs.declared.message.EditorBody.TheVariants as body
 use Rattle.dap_editor.specs.declared.message.EditorOutcome.{EditorOutcome}
@@ -88,6 +90,7 @@ capabilities_json = object_of (
     can (codes "supportsConfigurationDoneRequest") ∷
     can (codes "supportsDisassembleRequest") ∷
     can (codes "supportsEvaluateForHovers") ∷
+    can (codes "supportsExceptionInfoRequest") ∷
     can (codes "supportsFunctionBreakpoints") ∷
     can (codes "supportsLoadedSourcesRequest") ∷
     can (codes "supportsReadMemoryRequest") ∷
@@ -96,6 +99,16 @@ capabilities_json = object_of (
     can (codes "supportsSteppingGranularity") ∷
     can (codes "supportsTerminateRequest") ∷
     can (codes "supportsWriteMemoryRequest") ∷ [])
+
+-- how an exception is named, with the opcode and its address
+abbrev pub exception_text : UndefinedOpcode → Text
+exception_text u = codes "UndefinedOpcode: " ++ (upper_byte u.opcode ++ (codes " at " ++ upper_word u.pc))
+
+abbrev pub exception_json : UndefinedOpcode → Data
+exception_json u = object_of (
+    (codes "breakMode", string (codes "unhandled")) ∷
+    (codes "description", string (exception_text u)) ∷
+    (codes "exceptionId", string (codes "UndefinedOpcode")) ∷ [])
 
 abbrev pub evaluation_json : Text → Data
 evaluation_json text = object_of (
@@ -114,6 +127,7 @@ abbrev pub editor_body_json : EditorBody → Data
 editor_body_json (body.Board b) = body_json b
 editor_body_json body.Capabilities = capabilities_json
 editor_body_json (body.Breakpoints bs) = one_list (codes "breakpoints") placed_json bs
+editor_body_json (body.Exception u) = exception_json u
 editor_body_json (body.Evaluation text) = evaluation_json text
 editor_body_json (body.Memory address bytes unreadable) = memory_json address bytes unreadable
 editor_body_json (body.Written count) = written_json count
@@ -144,8 +158,24 @@ entry_json = object_of (
     (codes "reason", string (codes "entry")) ∷
     (codes "threadId", whole_number 1) ∷ [])
 
+abbrev pub halted_json : Data
+halted_json = object_of (
+    (codes "allThreadsStopped", boolean true) ∷
+    (codes "description", string (codes "halted")) ∷
+    (codes "reason", string (codes "step")) ∷
+    (codes "threadId", whole_number 1) ∷ [])
+
+abbrev pub stopped_at_json : UndefinedOpcode → Data
+stopped_at_json u = object_of (
+    (codes "allThreadsStopped", boolean true) ∷
+    (codes "reason", string (codes "exception")) ∷
+    (codes "text", string (exception_text u)) ∷
+    (codes "threadId", whole_number 1) ∷ [])
+
 abbrev pub stopped_json : ℕ → EditorStop → Data
 stopped_json seq stop.Entry = event_with_body seq (codes "stopped") entry_json
+stopped_json seq stop.Halted = event_with_body seq (codes "stopped") halted_json
+stopped_json seq (stop.Exception u) = event_with_body seq (codes "stopped") (stopped_at_json u)
 stopped_json seq (stop.Board reason) = event_json seq (board.Stopped reason)
 
 abbrev pub category_text : OutputCategory → Text
@@ -176,6 +206,17 @@ changed_json b = object_of (
     (codes "breakpoint", placed_json b) ∷
     (codes "reason", string (codes "changed")) ∷ [])
 
+abbrev pub invalidated_json : Data
+invalidated_json = object_of (
+    (codes "areas", list_of string (codes "stacks" ∷ codes "variables" ∷ [])) ∷ [])
+
+-- all of it
+abbrev pub memory_changed_json : Data
+memory_changed_json = object_of (
+    (codes "count", whole_number 65536) ∷
+    (codes "memoryReference", string (reference 0)) ∷
+    (codes "offset", whole_number 0) ∷ [])
+
 abbrev pub exited_json : ℕ → Data
 exited_json code = object_of ((codes "exitCode", whole_number code) ∷ [])
 
@@ -187,6 +228,9 @@ editor_event_json seq (event.Output category bytes place) =
     event_with_body seq (codes "output") (output_json category bytes place)
 editor_event_json seq (event.Breakpoint b) =
     event_with_body seq (codes "breakpoint") (changed_json b)
+editor_event_json seq event.Invalidated =
+    event_with_body seq (codes "invalidated") invalidated_json
+editor_event_json seq event.Memory = event_with_body seq (codes "memory") memory_changed_json
 editor_event_json seq (event.Exited code) =
     event_with_body seq (codes "exited") (exited_json code)
 editor_event_json seq event.Terminated = object_of (bare_event seq (codes "terminated"))

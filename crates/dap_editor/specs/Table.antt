@@ -34,11 +34,13 @@ use Rattle.dap_editor.specs.declared.request.EditorCommand.TheVariants as comman
 use Rattle.dap_editor.specs.Argument.{required_argument, optional, address, shift, context, functions, base64}
 
 abbrev pub spelling_of : EditorName → Text
+spelling_of name.Initialize = codes "initialize"
 spelling_of name.Launch = codes "launch"
 spelling_of name.Restart = codes "restart"
 spelling_of name.Terminate = codes "terminate"
 spelling_of name.SetFunctionBreakpoints = codes "setFunctionBreakpoints"
 spelling_of name.SetExceptionBreakpoints = codes "setExceptionBreakpoints"
+spelling_of name.ExceptionInfo = codes "exceptionInfo"
 spelling_of name.Evaluate = codes "evaluate"
 spelling_of name.ReadMemory = codes "readMemory"
 spelling_of name.WriteMemory = codes "writeMemory"
@@ -65,16 +67,24 @@ offset = optional (codes "offset") (shift 4294967295) (Forward 0)
 abbrev pub memory_reference : Data → Option ℕ
 memory_reference = required_argument (codes "memoryReference") address
 
+abbrev pub initialize_asked : Data → Option EditorCommand
+initialize_asked d =
+    optional (codes "supportsInvalidatedEvent") as_bool false d then_with λ invalidated.
+    optional (codes "supportsMemoryEvent") as_bool false d then_with λ memory.
+    Some (command.Initialize (record { invalidated = invalidated; memory = memory }))
+
 abbrev pub launch_asked : Data → Option EditorCommand
 launch_asked d =
     required_argument (codes "program") as_str d then_with λ program.
     optional (codes "stopOnEntry") as_bool false d then_with λ stops_on_entry.
+    optional (codes "stopAtEnd") as_bool false d then_with λ stops_at_end.
     optional (codes "noDebug") as_bool false d then_with λ only_runs.
     optional (codes "aliases") as_bool false d then_with λ has_aliases.
     optional (codes "switches") byte 0 d then_with λ switches.
     Some (command.Launch (record {
       program = program;
       stops_on_entry = stops_on_entry;
+      stops_at_end = stops_at_end;
       is_debugged = not only_runs;
       has_aliases = has_aliases;
       switches = switches;
@@ -110,12 +120,14 @@ disassemble_asked d =
 
 -- the command that a request makes with this name, if its arguments are as they must be
 abbrev pub command_asked : EditorName → Data → Option EditorCommand
+command_asked name.Initialize d = initialize_asked d
 command_asked name.Launch d = launch_asked d
 command_asked name.Restart d = Some command.Restart
 command_asked name.Terminate d = Some command.Terminate
 command_asked name.SetFunctionBreakpoints d =
     option_map command.SetFunctionBreakpoints (required_argument (codes "breakpoints") functions d)
 command_asked name.SetExceptionBreakpoints d = Some command.SetExceptionBreakpoints
+command_asked name.ExceptionInfo d = Some command.ExceptionInfo
 command_asked name.Evaluate d = evaluate_asked d
 command_asked name.ReadMemory d = read_memory_asked d
 command_asked name.WriteMemory d = write_memory_asked d
@@ -126,8 +138,8 @@ command_asked name.LoadedSources d = Some command.LoadedSources
 
 abbrev pub every_name : List EditorName
 every_name =
-    name.Launch ∷ name.Restart ∷ name.Terminate ∷ name.SetFunctionBreakpoints ∷
-    name.SetExceptionBreakpoints ∷ name.Evaluate ∷ name.ReadMemory ∷ name.WriteMemory ∷
+    name.Initialize ∷ name.Launch ∷ name.Restart ∷ name.Terminate ∷ name.SetFunctionBreakpoints ∷
+    name.SetExceptionBreakpoints ∷ name.ExceptionInfo ∷ name.Evaluate ∷ name.ReadMemory ∷ name.WriteMemory ∷
     name.Disassemble ∷ name.LoadedSources ∷ []
 
 -- the first of these names that is spelled like the text

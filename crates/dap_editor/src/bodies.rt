@@ -6,9 +6,11 @@ ghost use Rattle.dap_answers.specs.Object.{HasMembers};
 ghost use Rattle.dap_answers.specs.Json.{members_from, list_of, one_list, reference};
 ghost use Rattle.dap_editor.specs.Json.{placed_json, last_part, source_json, base64_text};
 ghost use Rattle.dap_editor.specs.Json.{data_members, capabilities_json, evaluation_json};
+ghost use Rattle.dap_editor.specs.Json.{exception_text, exception_json};
 ghost use Rattle.dap_editor.specs.Json.{memory_json, written_json, editor_body_json};
 
-use crate::message::{EditorBody, PlacedBreakpoint};
+use crate::message::{EditorBody, PlacedBreakpoint, UndefinedOpcode};
+use base_text::hexadecimal::{push_byte, push_word};
 use base_text::text::Text;
 use base64::engine::general_purpose::STANDARD;
 use dap_answers::bodies::body_json;
@@ -24,6 +26,7 @@ fn capabilities(alloc: Global) -> Result<Value, AllocError>
         .flag("supportsConfigurationDoneRequest", true)
         .flag("supportsDisassembleRequest", true)
         .flag("supportsEvaluateForHovers", true)
+        .flag("supportsExceptionInfoRequest", true)
         .flag("supportsFunctionBreakpoints", true)
         .flag("supportsLoadedSourcesRequest", true)
         .flag("supportsReadMemoryRequest", true)
@@ -93,6 +96,29 @@ fn sources(alloc: Global, paths: &[Text]) -> Result<Value, AllocError>
     Object::new(alloc).value("sources", values).finish()
 }
 
+/// How an exception is named, with the opcode and its address.
+pub fn exception_text(alloc: Global, undefined: UndefinedOpcode) -> Result<Text, AllocError>
+    ensures { IfOk result (λ text. text ≡ exception_text undefined) }
+{
+    let mut text = String::new(alloc);
+    text.push_str("UndefinedOpcode: ")?;
+    push_byte(&mut text, undefined.opcode)?;
+    text.push_str(" at ")?;
+    push_word(&mut text, undefined.pc)?;
+    Ok(Text::from(text))
+}
+
+fn exception(alloc: Global, undefined: UndefinedOpcode) -> Result<Value, AllocError>
+    ensures { IfOk result (λ v. view v ≡ exception_json undefined) }
+{
+    let description = exception_text(alloc, undefined)?;
+    Object::new(alloc)
+        .text("exceptionId", "UndefinedOpcode")
+        .text("description", description.as_str())
+        .text("breakMode", "unhandled")
+        .finish()
+}
+
 fn evaluation(alloc: Global, text: &str) -> Result<Value, AllocError>
     ensures { IfOk result (λ v. view v ≡ evaluation_json text.now) }
 {
@@ -150,6 +176,7 @@ pub fn editor_body_json(alloc: Global, body: &EditorBody) -> Result<Value, Alloc
         EditorBody::Board(body) => body_json(alloc, body),
         EditorBody::Capabilities => capabilities(alloc),
         EditorBody::Breakpoints(list) => breakpoints(alloc, list.as_slice()),
+        EditorBody::Exception(undefined) => exception(alloc, *undefined),
         EditorBody::Evaluation(text) => evaluation(alloc, text.as_str()),
         EditorBody::Memory {
             address,

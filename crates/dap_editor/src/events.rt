@@ -1,17 +1,22 @@
 //! The JSON of events.
-ghost use Rattle.std.specs.Prelude.{◌≡◌, IfOk};
+ghost use Rattle.std.specs.Prelude.{◌≡◌, IfOk, [], ◌∷◌, codes};
+ghost use Rattle.serde_json.specs.Data.{string};
 ghost use Rattle.serde_json.specs.View.{view};
-ghost use Rattle.dap_answers.specs.Json.{object_of};
+ghost use Rattle.dap_answers.specs.Json.{object_of, list_of};
 ghost use Rattle.dap_answers.specs.Object.{HasMembers};
 ghost use Rattle.dap_answers.specs.Json.{members_from};
-ghost use Rattle.dap_editor.specs.Json.{entry_json, stopped_json, bare_output, placed_output};
+ghost use Rattle.dap_editor.specs.Json.{entry_json, halted_json, stopped_at_json, stopped_json};
+ghost use Rattle.dap_editor.specs.Json.{bare_output, placed_output};
+ghost use Rattle.dap_editor.specs.Json.{invalidated_json, memory_changed_json};
 ghost use Rattle.dap_editor.specs.Json.{output_json, changed_json, exited_json, editor_event_json};
 
-use crate::bodies::source;
-use crate::message::{EditorEvent, EditorStop, OutputCategory, PlacedBreakpoint, SourcePlace};
+use crate::bodies::{exception_text, source};
+use crate::message::{
+    EditorEvent, EditorStop, OutputCategory, PlacedBreakpoint, SourcePlace, UndefinedOpcode,
+};
 use base_text::latin;
 use dap_answers::answer::Event;
-use dap_answers::json::ToJson;
+use dap_answers::json::{ToJson, reference};
 use dap_answers::object::Object;
 use dap_answers::sending::{bare_event, event, event_with_body};
 use serde_json::Value;
@@ -42,11 +47,38 @@ fn entry_body(alloc: Global) -> Result<Value, AllocError>
         .finish()
 }
 
+fn halted_body(alloc: Global) -> Result<Value, AllocError>
+    ensures { IfOk result (λ v. view v ≡ halted_json) }
+{
+    Object::new(alloc)
+        .text("reason", "step")
+        .text("description", "halted")
+        .number("threadId", 1)
+        .flag("allThreadsStopped", true)
+        .finish()
+}
+
+fn stopped_at_body(alloc: Global, undefined: UndefinedOpcode) -> Result<Value, AllocError>
+    ensures { IfOk result (λ v. view v ≡ stopped_at_json undefined) }
+{
+    let text = exception_text(alloc, undefined)?;
+    Object::new(alloc)
+        .text("reason", "exception")
+        .text("text", text.as_str())
+        .number("threadId", 1)
+        .flag("allThreadsStopped", true)
+        .finish()
+}
+
 fn stopped(alloc: Global, seq: u64, reason: EditorStop) -> Result<Value, AllocError>
     ensures { IfOk result (λ v. view v ≡ stopped_json seq reason) }
 {
     match reason {
         EditorStop::Entry => event_with_body(alloc, seq, "stopped", entry_body(alloc)?),
+        EditorStop::Halted => event_with_body(alloc, seq, "stopped", halted_body(alloc)?),
+        EditorStop::Exception(undefined) => {
+            event_with_body(alloc, seq, "stopped", stopped_at_body(alloc, undefined)?)
+        }
         EditorStop::Board(reason) => event(alloc, seq, Event::Stopped(reason)),
     }
 }
@@ -103,6 +135,35 @@ fn changed(alloc: Global, breakpoint: &PlacedBreakpoint) -> Result<Value, AllocE
         .finish()
 }
 
+fn areas(alloc: Global) -> Result<Value, AllocError>
+    ensures { IfOk result (λ v. view v ≡ list_of string (codes "stacks" ∷ codes "variables" ∷ [])) }
+{
+    let stacks = String::from_str(alloc, "stacks")?;
+    let variables = String::from_str(alloc, "variables")?;
+    let mut areas = Vec::new(alloc);
+    areas.push(Value::from(stacks))?;
+    areas.push(Value::from(variables))?;
+    Ok(Value::from(areas))
+}
+
+fn invalidated(alloc: Global) -> Result<Value, AllocError>
+    ensures { IfOk result (λ v. view v ≡ invalidated_json) }
+{
+    let areas = areas(alloc)?;
+    Object::new(alloc).value("areas", areas).finish()
+}
+
+fn memory_changed(alloc: Global) -> Result<Value, AllocError>
+    ensures { IfOk result (λ v. view v ≡ memory_changed_json) }
+{
+    let reference = reference(alloc, 0)?;
+    Object::new(alloc)
+        .value("memoryReference", reference)
+        .number("offset", 0)
+        .number("count", 65_536)
+        .finish()
+}
+
 fn exited(alloc: Global, code: u8) -> Result<Value, AllocError>
     ensures { IfOk result (λ v. view v ≡ exited_json code) }
 {
@@ -134,6 +195,10 @@ pub fn editor_event_json(
         EditorEvent::Breakpoint(breakpoint) => {
             event_with_body(alloc, seq, "breakpoint", changed(alloc, breakpoint)?)
         }
+        EditorEvent::Invalidated => {
+            event_with_body(alloc, seq, "invalidated", invalidated(alloc)?)
+        }
+        EditorEvent::Memory => event_with_body(alloc, seq, "memory", memory_changed(alloc)?),
         EditorEvent::Exited { code } => event_with_body(
             alloc,
             seq,

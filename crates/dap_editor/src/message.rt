@@ -12,6 +12,13 @@ pub struct PlacedBreakpoint {
     pub is_verified: bool,
 }
 
+/// An opcode that is undefined on the board, and its address.
+#[derive(Clone, Copy)]
+pub struct UndefinedOpcode {
+    pub opcode: u8,
+    pub pc: u16,
+}
+
 /// The body of a successful response.
 #[derive(Drop)]
 pub enum EditorBody {
@@ -21,6 +28,8 @@ pub enum EditorBody {
     Capabilities,
     /// Of `setBreakpoints`, `setFunctionBreakpoints` and `setExceptionBreakpoints`.
     Breakpoints(Sequence<PlacedBreakpoint>),
+    /// Of `exceptionInfo`.
+    Exception(UndefinedOpcode),
     /// Of `evaluate`.
     Evaluation(Text),
     /// Of `readMemory`: the bytes from this address on, and how many of those requested don't exist.
@@ -56,6 +65,10 @@ pub struct EditorResponse {
 pub enum EditorStop {
     /// At its start, before its first step.
     Entry,
+    /// At its end, after HLT.
+    Halted,
+    /// At its end, before an undefined opcode.
+    Exception(UndefinedOpcode),
     Board(StopReason),
 }
 
@@ -91,6 +104,10 @@ pub enum EditorEvent {
     },
     /// A breakpoint is verified now.
     Breakpoint(PlacedBreakpoint),
+    /// What the editor shows of the stack and of variables may have changed.
+    Invalidated,
+    /// Memory may have changed.
+    Memory,
     Exited {
         code: u8,
     },

@@ -5,11 +5,13 @@ ghost use Rattle.dap_editor.specs.Table.{spelling_of, first_named};
 /// A command of editors.
 #[derive(Clone, Copy)]
 pub enum EditorName {
+    Initialize,
     Launch,
     Restart,
     Terminate,
     SetFunctionBreakpoints,
     SetExceptionBreakpoints,
+    ExceptionInfo,
     Evaluate,
     ReadMemory,
     WriteMemory,
@@ -17,12 +19,14 @@ pub enum EditorName {
     LoadedSources,
 }
 
-const EVERY_NAME: [EditorName; 10] = [
+const EVERY_NAME: [EditorName; 12] = [
+    EditorName::Initialize,
     EditorName::Launch,
     EditorName::Restart,
     EditorName::Terminate,
     EditorName::SetFunctionBreakpoints,
     EditorName::SetExceptionBreakpoints,
+    EditorName::ExceptionInfo,
     EditorName::Evaluate,
     EditorName::ReadMemory,
     EditorName::WriteMemory,
@@ -38,11 +42,13 @@ impl EditorName {
         ensures { result.now ≡ spelling_of self }
     {
         match self {
+            EditorName::Initialize => "initialize",
             EditorName::Launch => "launch",
             EditorName::Restart => "restart",
             EditorName::Terminate => "terminate",
             EditorName::SetFunctionBreakpoints => "setFunctionBreakpoints",
             EditorName::SetExceptionBreakpoints => "setExceptionBreakpoints",
+            EditorName::ExceptionInfo => "exceptionInfo",
             EditorName::Evaluate => "evaluate",
             EditorName::ReadMemory => "readMemory",
             EditorName::WriteMemory => "writeMemory",

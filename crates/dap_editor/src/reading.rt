@@ -4,7 +4,7 @@ ghost use Rattle.serde_json.specs.View.{view};
 ghost use Rattle.dap_talk.specs.Reading.{envelope_of, envelope_with, reading};
 ghost use Rattle.dap_editor.specs.Answer.{Answers};
 ghost use Rattle.dap_editor.specs.Table.{command_named, command_asked, launch_asked, evaluate_asked};
-ghost use Rattle.dap_editor.specs.Table.{read_memory_asked};
+ghost use Rattle.dap_editor.specs.Table.{initialize_asked, read_memory_asked};
 ghost use Rattle.dap_editor.specs.Table.{write_memory_asked, disassemble_asked};
 ghost use Rattle.dap_editor.specs.Reading.{has_null_arguments, bare_request, asked_of_board, asked_of_editor};
 ghost use Rattle.dap_editor.specs.Reading.{asked_by, unreadable, editor_request, IsCommandBounded, IsBounded};
@@ -14,7 +14,9 @@ use crate::arguments::{
     offset, shift_or_0, text_at, truth_or_false,
 };
 use crate::name::EditorName;
-use crate::request::{EditorCommand, EditorRequest, Launch, RequestContent, RequestFault};
+use crate::request::{
+    EditorCommand, EditorRequest, Launch, RequestContent, RequestFault, SupportedEvents,
+};
 use base_text::text::Text;
 use dap_answers::object::Object;
 use dap_talk::arguments::ArgumentFault;
@@ -23,12 +25,25 @@ use dap_talk::reading::{envelope_of, read_request};
 use serde_json::Value;
 use std::alloc::{AllocError, Global};
 
+fn initialize(request: &Value) -> Option<EditorCommand>
+    ensures value { result ≡ initialize_asked (view request.now) }
+    ensures bounded { IfSome result (λ c. IsCommandBounded c) }
+{
+    let invalidated = truth_or_false(request, "supportsInvalidatedEvent")?;
+    let memory = truth_or_false(request, "supportsMemoryEvent")?;
+    Some(EditorCommand::Initialize(SupportedEvents {
+        invalidated,
+        memory,
+    }))
+}
+
 fn launch(alloc: Global, request: &Value) -> Result<EditorCommand, ArgumentFault>
     ensures answer { Answers (launch_asked (view request.now)) result }
     ensures bounded { IfOk result (λ c. IsCommandBounded c) }
 {
     let program = text_at(request, "program").ok_or(ArgumentFault::Arguments)?;
     let stops_on_entry = truth_or_false(request, "stopOnEntry").ok_or(ArgumentFault::Arguments)?;
+    let stops_at_end = truth_or_false(request, "stopAtEnd").ok_or(ArgumentFault::Arguments)?;
     let only_runs = truth_or_false(request, "noDebug").ok_or(ArgumentFault::Arguments)?;
     let has_aliases = truth_or_false(request, "aliases").ok_or(ArgumentFault::Arguments)?;
     let switches = byte_or_0(request, "switches").ok_or(ArgumentFault::Arguments)?;
@@ -36,6 +51,7 @@ fn launch(alloc: Global, request: &Value) -> Result<EditorCommand, ArgumentFault
     Ok(EditorCommand::Launch(Launch {
         program,
         stops_on_entry,
+        stops_at_end,
         is_debugged: !only_runs,
         has_aliases,
         switches,
@@ -123,11 +139,13 @@ fn read_command(
     ensures bounded { IfOk result (λ c. IsCommandBounded c) }
 {
     match name {
+        EditorName::Initialize => or_refused(initialize(request)),
         EditorName::Launch => launch(alloc, request),
         EditorName::Restart => Ok(EditorCommand::Restart),
         EditorName::Terminate => Ok(EditorCommand::Terminate),
         EditorName::SetFunctionBreakpoints => set_function_breakpoints(alloc, request),
         EditorName::SetExceptionBreakpoints => Ok(EditorCommand::SetExceptionBreakpoints),
+        EditorName::ExceptionInfo => Ok(EditorCommand::ExceptionInfo),
         EditorName::Evaluate => evaluate(alloc, request),
         EditorName::ReadMemory => or_refused(read_memory(request)),
         EditorName::WriteMemory => write_memory(alloc, request),

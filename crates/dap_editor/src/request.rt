@@ -19,12 +19,21 @@ pub enum EvaluateContext {
     Other,
 }
 
+/// The events that an editor understands beside those that each must (Debug Adapter Protocol, `initialize`).
+#[derive(Clone, Copy)]
+pub struct SupportedEvents {
+    pub invalidated: bool,
+    pub memory: bool,
+}
+
 /// What is to be debugged, and how.
 #[derive(Drop)]
 pub struct Launch {
     /// The path of the program's text, as the editor gave it.
     pub program: Text,
     pub stops_on_entry: bool,
+    /// Whether the program can still be looked at where its run ends.
+    pub stops_at_end: bool,
     /// False if the editor wants a run without debugging.
     pub is_debugged: bool,
     /// Whether the opcodes that Intel leaves undefined act as aliases of defined ones.
@@ -36,12 +45,14 @@ pub struct Launch {
 /// A command that only editors have, or that has more arguments for them than for the kernel.
 #[derive(Drop)]
 pub enum EditorCommand {
+    Initialize(SupportedEvents),
     Launch(Launch),
     Restart,
     Terminate,
     /// The labels at which to set breakpoints, at most 256, in the order of the request.
     SetFunctionBreakpoints(Sequence<Text>),
     SetExceptionBreakpoints,
+    ExceptionInfo,
     Evaluate {
         expression: Text,
         context: EvaluateContext,

@@ -5,7 +5,7 @@ use dap_answers::answer::{Body, StopReason};
 use dap_editor::json::message_json;
 use dap_editor::message::{
     EditorBody, EditorEvent, EditorOutcome, EditorResponse, EditorStop, Message, OutputCategory,
-    PlacedBreakpoint, SourcePlace,
+    PlacedBreakpoint, SourcePlace, UndefinedOpcode,
 };
 use std::alloc::{AllocError, Global};
 
@@ -15,6 +15,8 @@ enum Shape {
     Capabilities,
     // Number, line and whether it is verified.
     Breakpoints(&'static [(u32, Option<u32>, bool)]),
+    // Opcode and address.
+    Exception(u8, u16),
     Evaluation(&'static str),
     // Address, bytes and how many aren't there.
     Memory(u16, &'static [u8], u32),
@@ -41,6 +43,10 @@ fn breakpoints(
     Ok(list)
 }
 
+fn undefined(opcode: u8, pc: u16) -> UndefinedOpcode {
+    UndefinedOpcode { opcode, pc }
+}
+
 fn texts(alloc: Global, rows: &[&str]) -> Result<Sequence<Text>, AllocError> {
     let mut list = Sequence::new(alloc);
     for row in rows {
@@ -54,6 +60,7 @@ fn body(alloc: Global, shape: &Shape) -> Result<EditorBody, AllocError> {
         Shape::Threads => Ok(EditorBody::Board(Body::Threads)),
         Shape::Capabilities => Ok(EditorBody::Capabilities),
         Shape::Breakpoints(rows) => Ok(EditorBody::Breakpoints(breakpoints(alloc, rows)?)),
+        Shape::Exception(opcode, pc) => Ok(EditorBody::Exception(undefined(*opcode, *pc))),
         Shape::Evaluation(text) => Ok(EditorBody::Evaluation(Text::copy_of(alloc, text)?)),
         Shape::Memory(address, bytes, unreadable) => Ok(EditorBody::Memory {
             address: *address,
@@ -85,13 +92,14 @@ fn is_written(alloc: Global, message: &Message, json: &str) -> Result<bool, Allo
     Ok(text?.as_str() == json)
 }
 
-const BODIES: [(Shape, &str); 12] = [
+const BODIES: [(Shape, &str); 13] = [
     (Shape::Threads, r#"{"threads":[{"id":1,"name":"8080"}]}"#),
     (
         Shape::Capabilities,
         concat!(
             r#"{"supportsConfigurationDoneRequest":true,"supportsDisassembleRequest":true,"#,
-            r#""supportsEvaluateForHovers":true,"supportsFunctionBreakpoints":true,"#,
+            r#""supportsEvaluateForHovers":true,"supportsExceptionInfoRequest":true,"#,
+            r#""supportsFunctionBreakpoints":true,"#,
             r#""supportsLoadedSourcesRequest":true,"supportsReadMemoryRequest":true,"#,
             r#""supportsRestartRequest":true,"supportsSetVariable":true,"#,
             r#""supportsSteppingGranularity":true,"supportsTerminateRequest":true,"#,
@@ -102,6 +110,13 @@ const BODIES: [(Shape, &str); 12] = [
     (
         Shape::Breakpoints(&[(257, Some(3), true), (2, None, false)]),
         r#"{"breakpoints":[{"id":257,"line":3,"verified":true},{"id":2,"verified":false}]}"#,
+    ),
+    (
+        Shape::Exception(0xed, 0x01af),
+        concat!(
+            r#"{"breakMode":"unhandled","description":"UndefinedOpcode: ED at 01AF","#,
+            r#""exceptionId":"UndefinedOpcode"}"#,
+        ),
     ),
     (
         Shape::Evaluation(r#"0FFH "255""#),
@@ -173,7 +188,11 @@ fn refusals(rt: HostRuntime) -> Result<(), AllocError> {
 enum Told {
     Initialized,
     Stopped(EditorStop),
+    // At an undefined opcode and its address.
+    Excepted(u8, u16),
     Continued,
+    Invalidated,
+    Memory,
     Output(OutputCategory, &'static [u8]),
     // Path, line and column.
     Placed(OutputCategory, &'static [u8], (&'static str, u32, u32)),
@@ -209,7 +228,12 @@ fn event(alloc: Global, told: &Told) -> Result<EditorEvent, AllocError> {
     match told {
         Told::Initialized => Ok(EditorEvent::Initialized),
         Told::Stopped(reason) => Ok(EditorEvent::Stopped(*reason)),
+        Told::Excepted(opcode, pc) => {
+            Ok(EditorEvent::Stopped(EditorStop::Exception(undefined(*opcode, *pc))))
+        }
         Told::Continued => Ok(EditorEvent::Continued),
+        Told::Invalidated => Ok(EditorEvent::Invalidated),
+        Told::Memory => Ok(EditorEvent::Memory),
         Told::Output(category, bytes) => output(alloc, *category, bytes, None),
         Told::Placed(category, bytes, row) => {
             let place = place(alloc, *row)?;
@@ -221,12 +245,35 @@ fn event(alloc: Global, told: &Told) -> Result<EditorEvent, AllocError> {
     }
 }
 
-const EVENTS: [(Told, &str, &str); 12] = [
+const EVENTS: [(Told, &str, &str); 16] = [
     (Told::Initialized, "", "initialized"),
     (
         Told::Stopped(EditorStop::Entry),
         r#""body":{"allThreadsStopped":true,"reason":"entry","threadId":1},"#,
         "stopped",
+    ),
+    (
+        Told::Stopped(EditorStop::Halted),
+        r#""body":{"allThreadsStopped":true,"description":"halted","reason":"step","threadId":1},"#,
+        "stopped",
+    ),
+    (
+        Told::Excepted(0x08, 0x0100),
+        concat!(
+            r#""body":{"allThreadsStopped":true,"reason":"exception","#,
+            r#""text":"UndefinedOpcode: 08 at 0100","threadId":1},"#,
+        ),
+        "stopped",
+    ),
+    (
+        Told::Invalidated,
+        r#""body":{"areas":["stacks","variables"]},"#,
+        "invalidated",
+    ),
+    (
+        Told::Memory,
+        r#""body":{"count":65536,"memoryReference":"0x0000","offset":0},"#,
+        "memory",
     ),
     (
         Told::Stopped(EditorStop::Board(StopReason::Breakpoint)),

@@ -3,7 +3,7 @@ use base_text::text::Text;
 use dap_editor::reading::read_editor_request;
 use dap_editor::request::{
     EditorCommand, EditorRequest, EvaluateContext, Launch, RequestContent, RequestFault,
-    SignedOffset,
+    SignedOffset, SupportedEvents,
 };
 use serde_json::Value;
 use std::alloc::{AllocError, Global};
@@ -21,15 +21,23 @@ fn put_shift(told: &mut String, shift: SignedOffset) -> Result<(), AllocError> {
     Ok(())
 }
 
+fn put_supported(told: &mut String, supported: SupportedEvents) -> Result<(), AllocError> {
+    let invalidated = truth_word(supported.invalidated);
+    let memory = truth_word(supported.memory);
+    write!(told, "initialize {invalidated} {memory}")?;
+    Ok(())
+}
+
 fn put_launch(told: &mut String, launch: &Launch) -> Result<(), AllocError> {
     let program = launch.program.as_str();
     let entry = truth_word(launch.stops_on_entry);
+    let end = truth_word(launch.stops_at_end);
     let debugged = truth_word(launch.is_debugged);
     let aliases = truth_word(launch.has_aliases);
     let switches = launch.switches;
     write!(
         told,
-        "launch {program} {entry} {debugged} {aliases} {switches}"
+        "launch {program} {entry} {end} {debugged} {aliases} {switches}"
     )?;
     Ok(())
 }
@@ -114,11 +122,13 @@ fn put_memory(told: &mut String, command: &EditorCommand) -> Result<(), AllocErr
 
 fn put_command(told: &mut String, command: &EditorCommand) -> Result<(), AllocError> {
     match command {
+        EditorCommand::Initialize(supported) => put_supported(told, *supported),
         EditorCommand::Launch(launch) => put_launch(told, launch),
         EditorCommand::Restart => told.push_str("restart"),
         EditorCommand::Terminate => told.push_str("terminate"),
         EditorCommand::SetFunctionBreakpoints(names) => put_names(told, names.as_slice()),
         EditorCommand::SetExceptionBreakpoints => told.push_str("exceptions"),
+        EditorCommand::ExceptionInfo => told.push_str("exception"),
         EditorCommand::Evaluate {
             expression,
             context,
@@ -170,9 +180,18 @@ fn reads_as(alloc: Global, text: &str, wanted: &str) -> Result<bool, Fail> {
 
 // Requests with the number 7, a line each: the command, its arguments, and what it is read as.
 const REQUESTS: &str = concat!(
-    r#"launch {"program":"a.asm"} -> launch a.asm false true false 0
+    r#"initialize {"adapterID":"a"} -> initialize false false
+initialize null -> initialize false false
+initialize {"supportsInvalidatedEvent":true,"supportsMemoryEvent":false} -> initialize true false
+initialize {"supportsMemoryEvent":true} -> initialize false true
+initialize {"supportsMemoryEvent":1} -> Arguments
+initialize {"supportsInvalidatedEvent":null} -> Arguments
+launch {"program":"a.asm"} -> launch a.asm false false true false 0
+launch {"program":"a.asm","stopAtEnd":true} -> launch a.asm false true true false 0
+launch {"program":"a.asm","stopAtEnd":1} -> Arguments
+launch {"program":"a.asm","stopAtEnd":null} -> Arguments
 launch {"program":"","stopOnEntry":true,"noDebug":true,"#,
-    r#""aliases":true,"switches":255,"other":null} -> launch  true false true 255
+    r#""aliases":true,"switches":255,"other":null} -> launch  true false false true 255
 launch {"program":"a","switches":256} -> Arguments
 launch {"program":"a","switches":1.0} -> Arguments
 launch {"program":"a","noDebug":null} -> Arguments
@@ -181,6 +200,8 @@ launch null -> Arguments
 restart 3 -> restart
 terminate null -> terminate
 setExceptionBreakpoints {"filters":[]} -> exceptions
+exceptionInfo {"threadId":1} -> exception
+exceptionInfo null -> exception
 loadedSources {} -> sources
 setFunctionBreakpoints {"breakpoints":[]} -> functions
 setFunctionBreakpoints {"breakpoints":[{"name":"LOOP"},{"name":"END","logMessage":""}]} -> functions LOOP END

@@ -6,5 +6,6 @@
 #![tactic(auto)]
 
 pub mod file;
+pub mod life;
 pub mod opening;
 pub mod program;

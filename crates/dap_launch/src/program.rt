@@ -12,6 +12,7 @@ use dap_points::placed::line_points;
 use dap_points::points::WantedBreakpoints;
 use dap_program::breakpoints::{arm, labels_behind};
 use dap_program::change::{begin, begin_stopped};
+use lab_core::answer::End;
 use lab_core::lab::Lab;
 use std::alloc::{AllocError, Global};
 
@@ -21,6 +22,8 @@ pub enum Phase {
     /// It hasn't begun.
     Loaded,
     Begun,
+    /// Its run has ended, and is held there.
+    Held(End),
     /// The editor was told of its end.
     Over,
 }
@@ -70,6 +73,7 @@ pub fn copy_launch(launch: &Launch) -> Result<Launch, AllocError>
     Ok(Launch {
         program,
         stops_on_entry: launch.stops_on_entry,
+        stops_at_end: launch.stops_at_end,
         is_debugged: launch.is_debugged,
         has_aliases: launch.has_aliases,
         switches: launch.switches,

@@ -35,7 +35,8 @@ takes_none event.Attach b sure takes = takes
 takes_none (event.Switches byte) b sure takes = takes
 takes_none _ b sure takes = absurd sure
 
-pub surely_so : (e : Event) (old new : LabState) (r : Answered) → IsSure e → CarriesOut (result_of e) old r new
+pub surely_so : (e : Event) (old new : LabState) (r : Answered) → IsSure e
+    → CarriesOut (result_of e) old r new
     → (r ≡ err OutOfMemory → MayLackMemory e old) → (b : Board) → RepresentsBoard old b
     → RepresentsBoard new (after e b)
 surely_so e old new r sure does lacks b represents =

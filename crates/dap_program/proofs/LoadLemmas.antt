@@ -1,5 +1,5 @@
 -- What loading a program comes to.
-use Rattle.std.proofs.Common.{◌≡◌, ◌≢◌, ◌∙◌, ℕ, Result, Ok, Err, Option, Some, None, sym, ap, refl, subst}
+use Rattle.std.proofs.Common.{◌≡◌, ◌≢◌, ◌∙◌, ℕ, Result, Ok, Err, Option, Some, None, sym, ap, refl}
 use Rattle.lab_core.specs.declared.answer.Answer.{Answer}
 use Rattle.lab_core.specs.declared.fault.EventFault.{EventFault}
 use Rattle.lab_core.specs.declared.fault.EventFault.TheVariants as refused
@@ -48,7 +48,8 @@ started_by : (o : Option ℕ) (b : Board) (lab : LabState) (start : ℕ) → o �
 started_by (Some n) b lab start is represents = (represents, cc)
 started_by None b lab start is represents = absurd cc
 
-pub loads_start : (g : EventResult) (b : Board) (a : Answer) (lab : LabState) (start : ℕ) → MatchesResult b g (ok a) lab
+pub loads_start : (g : EventResult) (b : Board) (a : Answer) (lab : LabState) (start : ℕ)
+    → MatchesResult b g (ok a) lab
     → start_of a ≡ Some start → Loads (loaded_by g) (good lab start)
 loads_start (Ok (a', b')) b a lab start did is =
     started_by (start_of a') b' lab start (sym (ap start_of (same_answer a a' did.0)) ∙ is) did.1
@@ -64,7 +65,8 @@ loads_none (Ok (a', b')) b a lab did is =
     no_start_by (start_of a') b' (sym (ap start_of (same_answer a a' did.0)) ∙ is)
 loads_none (Err f) b a lab did is = absurd (apart a f did.0)
 
-pub loads_fault : (g : EventResult) (b : Board) (f : EventFault) (lab : LabState) → MatchesResult b g (err f) lab
+pub loads_fault : (g : EventResult) (b : Board) (f : EventFault) (lab : LabState)
+    → MatchesResult b g (err f) lab
     → Loads (loaded_by g) (bad (fault_of f))
 loads_fault (Ok (a, b')) b f lab did = absurd (apart a f (sym did.0))
 loads_fault (Err f') b f lab did = ap fault_of (same_fault f f' did.0)

@@ -19,8 +19,10 @@ told_three m0 m1 m2 m3 a b c e0 e1 e2 e3 =
     ∙ (append_assoc (as_messages a) (as_messages b) (as_messages c)
     ∙ (ap (λ rest. as_messages a ++ rest) (sym (told-append b c)) ∙ sym (told-append a (b ++ c)))))
 
--- and of an event with others behind it
-pub told_more : (m0 m1 m2 : List Message) (e : EditorEvent) (es : List EditorEvent)
-    → m1 ≡ m0 ++ as_messages (e ∷ []) → m2 ≡ m1 ++ as_messages es → m2 ≡ m0 ++ as_messages (e ∷ es)
-told_more m0 m1 m2 e es e1 e2 =
-    e2 ∙ (ap (λ m. m ++ as_messages es) e1 ∙ append_assoc m0 (as_messages (e ∷ [])) (as_messages es))
+-- and of events with others behind them
+pub told_both : (m0 m1 m2 : List Message) (a b : List EditorEvent) → m1 ≡ m0 ++ as_messages a
+    → m2 ≡ m1 ++ as_messages b → m2 ≡ m0 ++ as_messages (a ++ b)
+told_both m0 m1 m2 a b e1 e2 =
+    e2 ∙ (ap (λ m. m ++ as_messages b) e1
+    ∙ (append_assoc m0 (as_messages a) (as_messages b)
+    ∙ ap (λ rest. m0 ++ rest) (sym (told-append a b))))

@@ -2,7 +2,9 @@ pub mod Boards
 pub mod Messages
 pub mod Refusals
 pub mod Loading
+pub mod Ends
 pub mod Slices
+pub mod Bounds
 pub mod Kits
 pub mod Breakpoints
 pub mod Openings

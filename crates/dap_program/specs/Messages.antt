@@ -1,11 +1,11 @@
 -- Messages to an editor (Debug Adapter Protocol, "Base Protocol").
-use Rattle.std.specs.Prelude.{ℕ, List, [], ◌∷◌, map}
-use Rattle.base_text.specs.Bytes.{Text}
+use Rattle.std.specs.Prelude.{ℕ, List, [], ◌∷◌, ◌++◌, map, Bool, if◌then◌else◌}
 use Rattle.dap_editor.specs.declared.message.EditorEvent.{EditorEvent}
 use Rattle.dap_editor.specs.declared.message.EditorEvent.TheVariants as event
 use Rattle.dap_editor.specs.declared.message.EditorOutcome.{EditorOutcome}
 use Rattle.dap_editor.specs.declared.message.Message.{Message}
 use Rattle.dap_editor.specs.declared.message.Message.TheVariants as message
+use Rattle.dap_editor.specs.declared.request.SupportedEvents.{SupportedEvents}
 use Rattle.dap_program.specs.declared.messages.RequestId.{RequestId}
 use Rattle.dap_program.specs.declared.messages.FollowUp.{FollowUp}
 use Rattle.dap_program.specs.declared.messages.FollowUp.TheVariants as follow
@@ -26,9 +26,18 @@ turn_messages c outcome events = response c outcome ∷ as_messages events
 abbrev pub end_events : ℕ → List EditorEvent
 end_events code = event.Exited code ∷ event.Terminated ∷ []
 
+abbrev pub event_if : Bool → EditorEvent → List EditorEvent
+event_if is_told e = if is_told then e ∷ [] else []
+
+-- what is told of a change by hand to an editor that understands these events
+abbrev pub change_events : SupportedEvents → List EditorEvent
+change_events supported =
+    event_if supported.invalidated event.Invalidated ++ event_if supported.memory event.Memory
+
 -- what follows a response
 abbrev pub events_of : FollowUp → List EditorEvent
 events_of follow.Nothing = []
 events_of follow.Continued = event.Continued ∷ []
 events_of (follow.Stopped reason) = event.Stopped reason ∷ []
-events_of follow.Ended = end_events 1
+events_of (follow.Changed supported) = change_events supported
+events_of (follow.Ended code) = end_events code

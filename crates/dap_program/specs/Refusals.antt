@@ -1,5 +1,5 @@
 -- The text of each refusal, for the user (Debug Adapter Protocol, "Response", `message`).
-use Rattle.std.specs.Prelude.{ℕ, [], ◌∷◌, ◌++◌, codes, decimal}
+use Rattle.std.specs.Prelude.{ℕ, ◌++◌, codes, decimal}
 use Rattle.base_text.specs.Bytes.{Text}
 use Rattle.asm_syntax.specs.Faults.{fault_name}
 use Rattle.asm_syntax.specs.declared.fault.FaultKind.{FaultKind}

@@ -20,6 +20,9 @@ use Rattle.dap_editor.specs.declared.message.EditorStop.TheVariants.{Board as At
 use Rattle.dap_editor.specs.declared.message.OutputCategory.{OutputCategory}
 use Rattle.dap_editor.specs.declared.message.OutputCategory.TheVariants as category
 use Rattle.dap_program.specs.declared.slice.Slice.{Slice}
+use Rattle.dap_program.specs.declared.end.EndPolicy.{EndPolicy}
+use Rattle.dap_program.specs.declared.end.EndPolicy.TheVariants.{Exit, Hold}
+use Rattle.dap_program.specs.Ends.{exit_code, stop_at, held_at_end}
 use Rattle.dap_program.specs.Messages.{as_messages, end_events}
 
 -- ---- what the program writes
@@ -46,26 +49,34 @@ abbrev pub undefined_line : ℕ → ℕ → Bytes
 undefined_line opcode pc =
     codes "UndefinedOpcode: " ++ upper_byte opcode ++ codes " at " ++ upper_word pc ++ codes "\n"
 
-abbrev pub run_end_events : End → List EditorEvent
-run_end_events end.Halted = end_events 0
-run_end_events (end.Undefined opcode pc) = output category.Stderr (undefined_line opcode pc) ∷ end_events 1
+abbrev pub exception_events : End → List EditorEvent
+exception_events end.Halted = []
+exception_events (end.Undefined opcode pc) = output category.Stderr (undefined_line opcode pc) ∷ []
 
-abbrev pub outcome_events : SliceOutcome → List EditorEvent
-outcome_events outcome.More = []
-outcome_events outcome.Waiting = []
-outcome_events (outcome.Stop s) = event.Stopped (AtBoard (reason_of s)) ∷ []
-outcome_events (outcome.End e) = run_end_events e
+-- the program has ended, or is stopped there
+abbrev pub policy_events : EndPolicy → End → List EditorEvent
+policy_events Exit e = end_events (exit_code e)
+policy_events Hold e = event.Stopped (stop_at e) ∷ []
+
+abbrev pub run_end_events : EndPolicy → End → List EditorEvent
+run_end_events policy e = exception_events e ++ policy_events policy e
+
+abbrev pub outcome_events : EndPolicy → SliceOutcome → List EditorEvent
+outcome_events policy outcome.More = []
+outcome_events policy outcome.Waiting = []
+outcome_events policy (outcome.Stop s) = event.Stopped (AtBoard (reason_of s)) ∷ []
+outcome_events policy (outcome.End e) = run_end_events policy e
 
 -- the events of a slice with these port operations and this outcome
-abbrev pub slice_events : List PortOperation → SliceOutcome → List EditorEvent
-slice_events traffic ending =
+abbrev pub slice_events : EndPolicy → List PortOperation → SliceOutcome → List EditorEvent
+slice_events policy traffic ending =
     console_events (filter_map written_to_console traffic) ++ (line_events (list_any wants_line traffic)
-    ++ outcome_events ending)
+    ++ outcome_events policy ending)
 
 -- ---- the slice
 
 -- what a slice is on a board
-pub record IsSliceOf (b : Board) (s : Slice) (lab : LabState) : Type 0 where
-  pub messages : s.messages ≡ as_messages (slice_events (traffic_of (slice_end b).0 b) (slice_end b).1)
+pub record IsSliceOf (policy : EndPolicy) (b : Board) (s : Slice) (lab : LabState) : Type 0 where
+  pub messages : s.messages ≡ as_messages (slice_events policy (traffic_of (slice_end b).0 b) (slice_end b).1)
   pub outcome : s.outcome ≡ (slice_end b).1
-  pub represents : RepresentsBoard lab (after_slice b)
+  pub represents : RepresentsBoard lab (held_at_end policy (slice_end b).1 (after_slice b))

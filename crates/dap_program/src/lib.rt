@@ -5,8 +5,10 @@
 // has the text of each refusal, and `messages` the messages to an editor.
 #![tactic(auto)]
 
+pub mod bounds;
 pub mod breakpoints;
 pub mod change;
+pub mod end;
 pub mod failure;
 pub mod load;
 pub mod memory;

@@ -1,10 +1,12 @@
 //! The messages to an editor about one request or slice.
 ghost use Rattle.std.specs.Prelude.{◌≡◌, ◌≤◌, ◌+◌, ◌++◌, ◌∷◌, [], length, IfOk};
 ghost use Rattle.dap_program.specs.Messages.{as_messages, response, turn_messages, end_events, events_of};
+ghost use Rattle.dap_program.specs.Messages.{event_if, change_events};
 
 use base_text::sequence::Sequence;
 use base_text::text::Text;
 use dap_editor::message::{EditorEvent, EditorOutcome, EditorResponse, EditorStop, Message};
+use dap_editor::request::SupportedEvents;
 use std::alloc::{AllocError, Global};
 use std::marker::Model;
 
@@ -26,8 +28,10 @@ pub enum FollowUp {
     Continued,
     /// That it is stopped.
     Stopped(EditorStop),
-    /// That the program was ended.
-    Ended,
+    /// That something was changed by hand, to an editor that understands these events.
+    Changed(SupportedEvents),
+    /// That the program has ended, with this exit code.
+    Ended(u8),
 }
 
 /// At most eight messages, with room for all, seen as the list of them.
@@ -83,6 +87,26 @@ impl Messages {
         self.messages.push_reserved(Message::Event(event));
     }
 
+    fn push_if(&mut self, is_told: bool, event: EditorEvent)
+        requires { length self.old + 1 ≤ 8 }
+        ensures told { self.new ≡ self.old ++ as_messages (event_if is_told event) }
+        ensures few { length self.new ≤ length self.old + 1 }
+    {
+        if is_told {
+            self.push_event(event);
+        }
+    }
+
+    /// Adds what is told of a change by hand, without allocating.
+    #[tactic(auto, using(crate::proofs::SliceLemmas::told_both))]
+    pub fn push_changes(&mut self, supported: SupportedEvents)
+        requires { length self.old + 2 ≤ 8 }
+        ensures { self.new ≡ self.old ++ as_messages (change_events supported) }
+    {
+        self.push_if(supported.invalidated, EditorEvent::Invalidated);
+        self.push_if(supported.memory, EditorEvent::Memory);
+    }
+
     /// Adds the events that say that the program has ended, without allocating.
     pub fn push_end(&mut self, code: u8)
         requires { length self.old + 2 ≤ 8 }
@@ -101,7 +125,8 @@ impl Messages {
             FollowUp::Nothing => {}
             FollowUp::Continued => self.push_event(EditorEvent::Continued),
             FollowUp::Stopped(reason) => self.push_event(EditorEvent::Stopped(reason)),
-            FollowUp::Ended => self.push_end(1),
+            FollowUp::Changed(supported) => self.push_changes(supported),
+            FollowUp::Ended(code) => self.push_end(code),
         }
     }
 

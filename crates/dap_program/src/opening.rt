@@ -1,5 +1,6 @@
 //! The messages about a program that was loaded.
 ghost use Rattle.std.specs.Prelude.{◌≡◌, ◌++◌, ◌∷◌, [], OnOk, IfOk};
+ghost use Rattle.dap_program.specs.Messages.{event_if, change_events};
 ghost use Rattle.dap_program.specs.Messages.{turn_messages, as_messages, response, events_of};
 ghost use Rattle.dap_program.specs.Openings.{accepted_outcome, changed_events, first_events, opening_events};
 
@@ -9,6 +10,7 @@ use dap_answers::answer::Body;
 use dap_editor::message::{
     EditorBody, EditorEvent, EditorOutcome, EditorResponse, Message, PlacedBreakpoint,
 };
+use dap_editor::request::SupportedEvents;
 use std::alloc::{AllocError, Global};
 
 /// Why a program is loaded.
@@ -67,6 +69,30 @@ fn push_first(messages: &mut Sequence<Message>, cause: LoadReason) -> Result<(),
     }
 }
 
+fn push_if(
+    messages: &mut Sequence<Message>,
+    is_told: bool,
+    event: EditorEvent,
+) -> Result<(), AllocError>
+    ensures { OnOk result (messages.new ≡ messages.old ++ as_messages (event_if is_told event)) }
+{
+    if is_told {
+        return push_message(messages, event);
+    }
+    Ok(())
+}
+
+#[tactic(auto, using(crate::proofs::SliceLemmas::told_both))]
+fn push_changes(
+    messages: &mut Sequence<Message>,
+    supported: SupportedEvents,
+) -> Result<(), AllocError>
+    ensures { OnOk result (messages.new ≡ messages.old ++ as_messages (change_events supported)) }
+{
+    push_if(messages, supported.invalidated, EditorEvent::Invalidated)?;
+    push_if(messages, supported.memory, EditorEvent::Memory)
+}
+
 // Adds what follows: that the run is stopped or goes on, or that the program has ended.
 fn push_follow(messages: &mut Sequence<Message>, follow: FollowUp) -> Result<(), AllocError>
     ensures { OnOk result (messages.new ≡ messages.old ++ as_messages (events_of follow)) }
@@ -75,8 +101,9 @@ fn push_follow(messages: &mut Sequence<Message>, follow: FollowUp) -> Result<(),
         FollowUp::Nothing => Ok(()),
         FollowUp::Continued => push_message(messages, EditorEvent::Continued),
         FollowUp::Stopped(reason) => push_message(messages, EditorEvent::Stopped(reason)),
-        FollowUp::Ended => {
-            push_message(messages, EditorEvent::Exited { code: 1 })?;
+        FollowUp::Changed(supported) => push_changes(messages, supported),
+        FollowUp::Ended(code) => {
+            push_message(messages, EditorEvent::Exited { code })?;
             push_message(messages, EditorEvent::Terminated)
         }
     }

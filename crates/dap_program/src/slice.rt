@@ -9,9 +9,11 @@ ghost use Rattle.dap_program.specs.Boards.{RepresentsSomeBoard};
 ghost use Rattle.dap_program.specs.Messages.{as_messages};
 ghost use Rattle.dap_program.specs.Slices as slices;
 ghost use Rattle.dap_program.specs.Slices.{console_events, line_question, line_events, run_end_events};
-ghost use Rattle.dap_program.specs.Slices.{undefined_line, outcome_events, slice_events, IsSliceOf};
+ghost use Rattle.dap_program.specs.Slices.{undefined_line, exception_events, policy_events};
+ghost use Rattle.dap_program.specs.Slices.{outcome_events, slice_events, IsSliceOf};
 ghost use Rattle.dap_program.specs.Kits.{IsSliceKit};
 
+use crate::end::{EndPolicy, exit_code, hold_at_end, stop_at};
 use crate::messages::Messages;
 use base_text::sequence::{Bytes, Sequence};
 use dap_board::names::reason_of;
@@ -152,30 +154,48 @@ fn undefined_line(mut text: Vec<u8>, opcode: u8, pc: u16) -> Bytes
     Bytes::from(text)
 }
 
-fn push_run_end(messages: &mut Messages, text: Vec<u8>, end: End)
-    requires few { length messages.old + 3 ≤ 8 }
+fn push_exception(messages: &mut Messages, text: Vec<u8>, end: End)
+    requires few { length messages.old + 1 ≤ 8 }
     requires begun { text.items ≡ codes "UndefinedOpcode: " }
     requires room { 28 ≤ vec_capacity text }
-    ensures { messages.new ≡ messages.old ++ as_messages (run_end_events end) }
+    ensures told { messages.new ≡ messages.old ++ as_messages (exception_events end) }
+    ensures few { length messages.new ≤ length messages.old + 1 }
 {
     match end {
-        End::Halted => {
-            drop(text);
-            messages.push_end(0);
-        }
+        End::Halted => drop(text),
         End::Undefined { opcode, pc } => {
             let line = undefined_line(text, opcode, pc);
             messages.push_event(output(OutputCategory::Stderr, line));
-            messages.push_end(1);
         }
     }
 }
 
-fn push_outcome(messages: &mut Messages, text: Vec<u8>, outcome: SliceOutcome)
+fn push_policy(messages: &mut Messages, policy: EndPolicy, end: End)
+    requires { length messages.old + 2 ≤ 8 }
+    ensures { messages.new ≡ messages.old ++ as_messages (policy_events policy end) }
+{
+    match policy {
+        EndPolicy::Exit => messages.push_end(exit_code(end)),
+        EndPolicy::Hold => messages.push_event(EditorEvent::Stopped(stop_at(end))),
+    }
+}
+
+#[tactic(auto, using(crate::proofs::SliceLemmas::told_both))]
+fn push_run_end(messages: &mut Messages, text: Vec<u8>, policy: EndPolicy, end: End)
     requires few { length messages.old + 3 ≤ 8 }
     requires begun { text.items ≡ codes "UndefinedOpcode: " }
     requires room { 28 ≤ vec_capacity text }
-    ensures { messages.new ≡ messages.old ++ as_messages (outcome_events outcome) }
+    ensures { messages.new ≡ messages.old ++ as_messages (run_end_events policy end) }
+{
+    push_exception(messages, text, end);
+    push_policy(messages, policy, end);
+}
+
+fn push_outcome(messages: &mut Messages, text: Vec<u8>, policy: EndPolicy, outcome: SliceOutcome)
+    requires few { length messages.old + 3 ≤ 8 }
+    requires begun { text.items ≡ codes "UndefinedOpcode: " }
+    requires room { 28 ≤ vec_capacity text }
+    ensures { messages.new ≡ messages.old ++ as_messages (outcome_events policy outcome) }
 {
     match outcome {
         SliceOutcome::More | SliceOutcome::Waiting => drop(text),
@@ -184,16 +204,21 @@ fn push_outcome(messages: &mut Messages, text: Vec<u8>, outcome: SliceOutcome)
             let reason = EditorStop::Board(reason_of(stop));
             messages.push_event(EditorEvent::Stopped(reason));
         }
-        SliceOutcome::End(end) => push_run_end(messages, text, end),
+        SliceOutcome::End(end) => push_run_end(messages, text, policy, end),
     }
 }
 
 impl SliceKit {
     // The messages about a slice with these port operations and this outcome.
-    fn tell(self, traffic: &[PortOperation], outcome: SliceOutcome) -> Sequence<Message>
+    fn tell(
+        self,
+        policy: EndPolicy,
+        traffic: &[PortOperation],
+        outcome: SliceOutcome,
+    ) -> Sequence<Message>
         requires kit { IsSliceKit self }
         requires few { length traffic.now ≤ 4096 }
-        ensures { result ≡ as_messages (slice_events traffic.now outcome) }
+        ensures { result ≡ as_messages (slice_events policy traffic.now outcome) }
     {
         let SliceKit {
             mut messages,
@@ -204,25 +229,27 @@ impl SliceKit {
         let console = print_all(console, traffic);
         push_console(&mut messages, console);
         push_line(&mut messages, question, is_line_requested(traffic));
-        push_outcome(&mut messages, opcode, outcome);
+        push_outcome(&mut messages, opcode, policy, outcome);
         messages.into_sequence()
     }
 }
 
 // ---- the slice
 
-/// Makes at most 4,096 steps of the run on a board, and returns the messages about them. If no run goes on,
-/// it fails like out of memory. If it fails, the board stays as it was.
-pub fn make_slice(alloc: Global, lab: &mut Lab) -> Result<Slice, AllocError>
+/// Makes at most 4,096 steps of the run on a board, and returns the messages about them. `policy` says if the
+/// run is held at its end. If no run goes on, it fails like out of memory. If it fails, the board stays as it
+/// was.
+pub fn make_slice(alloc: Global, lab: &mut Lab, policy: EndPolicy) -> Result<Slice, AllocError>
     requires { RepresentsSomeBoard lab.old }
     ensures made { (b : Board) → RepresentsBoard lab.old b → b.run ≡ Running
-        → IfOk result (λ slice. IsSliceOf b slice lab.new) }
+        → IfOk result (λ slice. IsSliceOf policy b slice lab.new) }
     ensures err { OnErr result (lab.new ≡ lab.old) }
 {
     let kit = slice_kit(alloc)?;
     match run_slice(lab) {
         Ok((traffic, outcome)) => {
-            let messages = kit.tell(traffic.as_slice(), outcome);
+            let messages = kit.tell(policy, traffic.as_slice(), outcome);
+            hold_at_end(lab, policy, outcome);
             Ok(Slice { messages, outcome })
         }
         Err(_) => {

@@ -34,7 +34,8 @@ use Rattle.dap_program.specs.declared.opening.LoadReason.TheVariants.{Launch, Re
 use Rattle.dap_program.specs.Failures.{load_event}
 use Rattle.dap_program.specs.Loading.{load_result}
 use Rattle.dap_program.specs.Openings.{changed_events, first_events, opening_events}
-use Rattle.dap_program.specs.Messages.{as_messages, events_of}
+use Rattle.dap_editor.specs.declared.message.EditorEvent.TheVariants as unasked
+use Rattle.dap_program.specs.Messages.{as_messages, event_if, events_of}
 use Rattle.lab_core.specs.SliceEnds.{slice_end}
 use Rattle.i80_devs.specs.Console.{written_to_console}
 use Rattle.dap_program.specs.Slices.{slice_events, console_events, line_events, outcome_events}
@@ -45,7 +46,10 @@ use Rattle.dap_launch.specs.declared.program.Program.{Program}
 use Rattle.dap_session.specs.States.{SessionState, wants_slice}
 use Rattle.dap_session.specs.Evaluations.{value_told}
 use Rattle.dap_session.specs.Memory.{writing}
+use Rattle.dap_program.specs.declared.end.EndPolicy.{EndPolicy}
+use Rattle.dap_program.specs.declared.end.EndPolicy.TheVariants.{Exit, Hold}
 use Rattle.dap_launch.specs.Files.{text_in}
+use Rattle.dap_launch.specs.Lives.{policy_of}
 use Rattle.dap_launch.specs.Programs.{program_of, program_lines, program_labels}
 use Rattle.dap_session.specs.Launches.{started_follow, by_text, loading, loading_as, launching_over}
 use Rattle.dap_session.specs.Launches.{restarting_of}
@@ -61,7 +65,8 @@ callers_answered-told [] = refl
 callers_answered-told (e ∷ es) = callers_answered-told es
 
 answered_slicing : (p : ℕ × SliceOutcome) (s : SessionState) → callers_answered (slicing p s).messages ≡ []
-answered_slicing (k, ending) s = callers_answered-told (slice_events (traffic_of k s.board) ending)
+answered_slicing (k, ending) s = callers_answered-told
+    (slice_events (policy_of s.settings.program) (traffic_of k s.board) ending)
 
 answered_sliced : (s : SessionState) → callers_answered (slice_told s).messages ≡ []
 unfolding slice_told
@@ -105,11 +110,18 @@ silent-append : (first second : List EditorEvent) → IsSilent first → IsSilen
 silent-append first second one two =
     shown-append first second ∙ (ap (λ xs. xs ++ shown second) one ∙ two)
 
+silent_changes : (x y : Bool) → IsSilent (event_if x unasked.Invalidated ++ event_if y unasked.Memory)
+silent_changes true true = refl
+silent_changes true false = refl
+silent_changes false true = refl
+silent_changes false false = refl
+
 silent_follow : (f : FollowUp) → IsSilent (events_of f)
 silent_follow follow.Nothing = refl
 silent_follow follow.Continued = refl
 silent_follow (follow.Stopped reason) = refl
-silent_follow follow.Ended = refl
+silent_follow (follow.Changed supported) = silent_changes supported.invalidated supported.memory
+silent_follow (follow.Ended code) = refl
 
 silent_changed : (points : List PlacedBreakpoint) → IsSilent (changed_events points)
 silent_changed [] = refl
@@ -165,7 +177,8 @@ silent_restart : (p : Option Program) (found : Option FileText) (s : SessionStat
 silent_restart None found s = refl
 silent_restart (Some p) found s = silent_text (text_in found) Restart p.launch s
 
-silent_asking : (a : RequestContent) (found : Option FileText) (s : SessionState) → IsSilent (asking a found s).events
+silent_asking : (a : RequestContent) (found : Option FileText) (s : SessionState)
+    → IsSilent (asking a found s).events
 silent_asking (asked.Editor (editor.Launch l)) found s = silent_launch s.settings.program l found s
 silent_asking (asked.Editor editor.Restart) found s = silent_restart s.settings.program found s
 silent_asking (asked.Editor (editor.WriteMemory address offset bytes)) found s =
@@ -179,7 +192,8 @@ silent_unless : (o : Option Text) (a : RequestContent) (found : Option FileText)
 silent_unless (Some text) a found s = refl
 silent_unless None a found s = silent_asking a found s
 
-silent_turn : (a : RequestContent) (found : Option FileText) (s : SessionState) → IsSilent (turn a found s).events
+silent_turn : (a : RequestContent) (found : Option FileText) (s : SessionState)
+    → IsSilent (turn a found s).events
 unfolding turn
 silent_turn a found s = silent_unless (objection a s) a found s
 
@@ -195,28 +209,32 @@ silent_line : (b : Bool) → IsSilent (line_events b)
 silent_line true = refl
 silent_line false = refl
 
-silent_end : (e : End) → IsSilent (run_end_events e)
-silent_end end.Halted = refl
-silent_end (end.Undefined opcode pc) = refl
+silent_end : (p : EndPolicy) (e : End) → IsSilent (run_end_events p e)
+silent_end Exit end.Halted = refl
+silent_end Exit (end.Undefined opcode pc) = refl
+silent_end Hold end.Halted = refl
+silent_end Hold (end.Undefined opcode pc) = refl
 
-silent_outcome : (o : SliceOutcome) → IsSilent (outcome_events o)
-silent_outcome outcome.More = refl
-silent_outcome outcome.Waiting = refl
-silent_outcome (outcome.Stop reason) = refl
-silent_outcome (outcome.End e) = silent_end e
+silent_outcome : (p : EndPolicy) (o : SliceOutcome) → IsSilent (outcome_events p o)
+silent_outcome p outcome.More = refl
+silent_outcome p outcome.Waiting = refl
+silent_outcome p (outcome.Stop reason) = refl
+silent_outcome p (outcome.End e) = silent_end p e
 
-shown_events : (bytes : Bytes) (asks : Bool) (o : SliceOutcome)
-    → shown (console_events bytes ++ (line_events asks ++ outcome_events o)) ≡ bytes
-shown_events bytes asks o =
-    let rest = line_events asks ++ outcome_events o in
+shown_events : (bytes : Bytes) (asks : Bool) (p : EndPolicy) (o : SliceOutcome)
+    → shown (console_events bytes ++ (line_events asks ++ outcome_events p o)) ≡ bytes
+shown_events bytes asks p o =
+    let rest = line_events asks ++ outcome_events p o in
     let silent : IsSilent rest =
-    silent-append (line_events asks) (outcome_events o) (silent_line asks) (silent_outcome o) in
+    silent-append (line_events asks) (outcome_events p o) (silent_line asks) (silent_outcome p o) in
     shown-append (console_events bytes) rest
     ∙ (ap (λ xs. xs ++ shown rest) (shown_console bytes) ∙ (ap (λ xs. bytes ++ xs) silent ∙ append-nil bytes))
 
 shown_slicing : (p : ℕ × SliceOutcome) (s : SessionState)
     → console_of (slicing p s).messages ≡ written_in p s.board
-shown_slicing (k, ending) s = shown_events (filter_map written_to_console (traffic_of k s.board)) _ ending
+shown_slicing (k, ending) s =
+    shown_events (filter_map written_to_console (traffic_of k s.board)) _ (policy_of s.settings.program)
+    ending
 
 shown_sliced : (s : SessionState) → console_of (slice_told s).messages ≡ written_by slice s
 unfolding slice_told

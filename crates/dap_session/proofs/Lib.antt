@@ -7,3 +7,6 @@ pub mod TurnLemmas
 pub mod StartLemmas
 pub mod StopLemmas
 pub mod StandsLemmas
+pub mod EndLemmas
+pub mod RefusalLemmas
+pub mod ChangeLemmas

@@ -14,7 +14,8 @@ use Rattle.dap_program.proofs.SliceLemmas.{told-append}
 use Rattle.dap_launch.specs.declared.program.Phase.{Phase}
 use Rattle.dap_launch.specs.declared.program.Phase.TheVariants as phase
 use Rattle.dap_launch.specs.declared.program.Program.{Program}
-use Rattle.dap_session.specs.States.{SessionState, with_board, in_phase, is_over, is_live}
+use Rattle.dap_launch.specs.Lives.{in_phase, is_over, is_live}
+use Rattle.dap_session.specs.States.{SessionState, with_board}
 use Rattle.dap_session.specs.Laws.{Shown, shown_after, shown_for, ends_in, ends_told, ends_between, has_run}
 use Rattle.dap_session.specs.Laws.{is_begun, has_begun}
 use Rattle.dap_session.proofs.BoardLemmas.{SameRun}
@@ -49,6 +50,7 @@ seen_board b s kept = λ i. record {
 abbrev pub PhaseFits : Phase → RunState → Bool → Type 0
 PhaseFits phase.Loaded run is_configured = run ≡ NoRun
 PhaseFits phase.Begun run is_configured = (has_run run ≡ true) × (is_configured ≡ true)
+PhaseFits (phase.Held how) run is_configured = (has_run run ≡ true) × (is_configured ≡ true)
 PhaseFits phase.Over run is_configured = run ≡ NoRun
 
 -- and a debugger is attached where the launch has one
@@ -60,7 +62,7 @@ ProgramFits (Some p) run is_attached is_configured =
 abbrev pub IsReached : Seen → Type 0
 IsReached v = ProgramFits v.program v.run v.is_attached v.is_configured
 
-no_run : (run : RunState) → run ≡ NoRun → has_run run ≡ true → ⊥
+pub no_run : (run : RunState) → run ≡ NoRun → has_run run ≡ true → ⊥
 no_run run none has = true≢false (sym has ∙ ap has_run none)
 
 pub both : {A : Type 0} (b : Bool) → b ≡ true → b ≡ false → A
@@ -70,6 +72,7 @@ idle_phase : (h : Phase) (run : RunState) (c : Bool) → PhaseFits h run c → n
     → run ≡ NoRun
 idle_phase phase.Loaded run c fits dead = fits
 idle_phase phase.Begun run c fits dead = absurd (true≢false dead)
+idle_phase (phase.Held how) run c fits dead = absurd (true≢false dead)
 idle_phase phase.Over run c fits dead = fits
 
 idle_program : (o : Option Program) (run : RunState) (a c : Bool) → ProgramFits o run a c → is_live o ≡ false
@@ -84,6 +87,7 @@ idle v reached dead = idle_program v.program v.run v.is_attached v.is_configured
 waiting_phase : (h : Phase) (run : RunState) (c : Bool) → PhaseFits h run c → c ≡ false → run ≡ NoRun
 waiting_phase phase.Loaded run c fits is = fits
 waiting_phase phase.Begun run c fits is = both c fits.1 is
+waiting_phase (phase.Held how) run c fits is = both c fits.1 is
 waiting_phase phase.Over run c fits is = fits
 
 waiting_program : (o : Option Program) (run : RunState) (a c : Bool) → ProgramFits o run a c → c ≡ false
@@ -99,6 +103,7 @@ live_phase : (h : Phase) (run : RunState) (c : Bool) → PhaseFits h run c → h
     → not (is_over h) ≡ true
 live_phase phase.Loaded run c fits has = refl
 live_phase phase.Begun run c fits has = refl
+live_phase (phase.Held how) run c fits has = refl
 live_phase phase.Over run c fits has = absurd (no_run run fits has)
 
 live_program : (o : Option Program) (run : RunState) (a c : Bool) → ProgramFits o run a c → has_run run ≡ true
@@ -113,6 +118,7 @@ lively v reached has = live_program v.program v.run v.is_attached v.is_configure
 begun_phase : (h : Phase) (run : RunState) (c : Bool) → PhaseFits h run c → has_run run ≡ is_begun h
 begun_phase phase.Loaded run c fits = ap has_run fits
 begun_phase phase.Begun run c fits = fits.0
+begun_phase (phase.Held how) run c fits = fits.0
 begun_phase phase.Over run c fits = ap has_run fits
 
 begun_program : (o : Option Program) (run : RunState) (a c : Bool) → ProgramFits o run a c
@@ -128,6 +134,7 @@ on_phase : (h : Phase) (run r : RunState) (c : Bool) → PhaseFits h run c → h
     → PhaseFits h r c
 on_phase phase.Loaded run r c fits had has = absurd (no_run run fits had)
 on_phase phase.Begun run r c fits had has = (has, fits.1)
+on_phase (phase.Held how) run r c fits had has = (has, fits.1)
 on_phase phase.Over run r c fits had has = absurd (no_run run fits had)
 
 on_program : (o : Option Program) (run r : RunState) (a c : Bool) → ProgramFits o run a c → has_run run ≡ true
@@ -223,15 +230,20 @@ ends_dead v reached dead = record {
   ends = none_lived (is_live v.program) _ dead;
 }
 
--- a program ends where one is live
-pub goes_over : (b : Bool) (s s' : SessionState) → is_live s.settings.program ≡ b → IsReached (seen s)
-    → seen s' ≡ over_seen (seen s) → Goes s (events_of (if b then follow.Ended else follow.Nothing)) s'
-goes_over true s s' live reached is = record {
+-- a live program ends, with this exit code
+pub goes_ended : (code : ℕ) (s s' : SessionState) → is_live s.settings.program ≡ true → IsReached (seen s)
+    → seen s' ≡ over_seen (seen s) → Goes s (events_of (follow.Ended code)) s'
+goes_ended code s s' live reached is = record {
   follows =
-      subst (λ w. Follows (seen s) (as_messages (events_of follow.Ended)) w) (sym is)
-      (ends_live (seen s) (as_messages (events_of follow.Ended)) reached live refl refl);
+      subst (λ w. Follows (seen s) (as_messages (events_of (follow.Ended code))) w) (sym is)
+      (ends_live (seen s) (as_messages (events_of (follow.Ended code))) reached live refl refl);
   quiet = λ dead. both (is_live s.settings.program) live dead;
 }
+
+-- a program ends where one is live
+pub goes_over : (b : Bool) (s s' : SessionState) → is_live s.settings.program ≡ b → IsReached (seen s)
+    → seen s' ≡ over_seen (seen s) → Goes s (events_of (if b then follow.Ended 1 else follow.Nothing)) s'
+goes_over true s s' live reached is = goes_ended 1 s s' live reached is
 goes_over false s s' dead reached is = record {
   follows = subst (λ w. Follows (seen s) [] w) (sym is) (ends_dead (seen s) reached dead);
   quiet = λ _. refl;

@@ -10,14 +10,14 @@ use Rattle.dap_editor.specs.declared.request.RequestContent.TheVariants as asked
 use Rattle.dap_editor.specs.declared.request.EditorCommand.TheVariants as editor
 use Rattle.dap_editor.specs.declared.request.SignedOffset.{SignedOffset}
 use Rattle.dap_program.specs.declared.messages.RequestId.{RequestId}
-use Rattle.dap_program.specs.Memory.{with_bytes_at}
+use Rattle.dap_program.specs.Memory.{address_at, with_bytes_at}
 use Rattle.dap_program.specs.Refusals.{board_refusal}
 use Rattle.dap_launch.specs.declared.program.Phase.{Phase}
 use Rattle.dap_launch.specs.declared.program.Phase.TheVariants.{Loaded}
 use Rattle.dap_launch.specs.declared.program.Program.{Program}
 use Rattle.dap_session.specs.States.{SessionState, with_board}
 use Rattle.dap_session.specs.Turns.{Replied, turn_of, refusing}
-use Rattle.dap_session.specs.Memory.{is_stopped, address_at, writing_from, writing}
+use Rattle.dap_session.specs.Memory.{is_stopped, writing_from, writing}
 use Rattle.dap_session.specs.Launches.{beginning, beginning_in, beginning_where, begin_if_configured}
 use Rattle.dap_session.specs.Slices.{Told, told_in}
 use Rattle.dap_session.specs.Represents.{SessionFields, RepresentsSession, Tells, TellsAs, TellsFor, IsLeft}
@@ -33,7 +33,8 @@ abbrev pub write_command : ℕ → SignedOffset → Bytes → RequestContent
 write_command address offset bytes = asked.Editor (editor.WriteMemory address offset bytes)
 
 -- a write that is refused, and that would be so of no bytes too
-pub refused_write : (address : ℕ) (offset : SignedOffset) (bytes text : Bytes) (c : RequestId) (old new : SessionFields)
+pub refused_write : (address : ℕ) (offset : SignedOffset) (bytes text : Bytes) (c : RequestId)
+    (old new : SessionFields)
     (r : Result (List Message) AllocError)
     → ((xs : Bytes) (s : SessionState) → RepresentsSession old s
     → writing address offset xs s ≡ refusing text s)
@@ -79,7 +80,8 @@ taken_twice (suc m) (suc n) [] = refl
 taken_twice (suc m) (suc n) (x ∷ xs) = ap (λ rest. x ∷ rest) (taken_twice m n xs)
 
 -- a write that is done, or of which some bytes are written
-pub done_write : (address start : ℕ) (offset : SignedOffset) (bytes : Bytes) (c : RequestId) (old new : SessionFields)
+pub done_write : (address start : ℕ) (offset : SignedOffset) (bytes : Bytes) (c : RequestId)
+    (old new : SessionFields)
     (r : Result (List Message) AllocError)
     → ((s : SessionState) → RepresentsSession old s → is_stopped s.board.run ≡ true)
     → address_at address offset ≡ Some start

@@ -29,9 +29,10 @@ use Rattle.dap_launch.specs.declared.file.FileText.{FileText}
 use Rattle.dap_launch.specs.declared.program.Phase.{Phase}
 use Rattle.dap_launch.specs.declared.program.Phase.TheVariants as phase
 use Rattle.dap_launch.specs.declared.program.Program.{Program}
-use Rattle.dap_session.specs.States.{SessionState, with_board, with_program, in_phase, is_over, is_live}
+use Rattle.dap_session.specs.States.{SessionState, with_board, with_program}
 use Rattle.dap_session.specs.Turns.{Turn}
 use Rattle.dap_launch.specs.Files.{text_in}
+use Rattle.dap_launch.specs.Lives.{in_phase, is_over, is_live}
 use Rattle.dap_launch.specs.Programs.{pauses, going_follow, begun_follow, program_of, program_lines}
 use Rattle.dap_launch.specs.Programs.{program_labels, program_board}
 use Rattle.dap_session.specs.Launches.{installing, beginning, beginning_in, beginning_where, started_follow}
@@ -125,6 +126,8 @@ goes_in phase.Loaded p s is on attached none =
     }
 goes_in phase.Begun p s is on attached fits =
     only_configured s (phase_fits phase.Begun p s is on attached (fits.0, refl))
+goes_in (phase.Held how) p s is on attached fits =
+    only_configured s (phase_fits (phase.Held how) p s is on attached (fits.0, refl))
 goes_in phase.Over p s is on attached none = only_configured s (phase_fits phase.Over p s is on attached none)
 
 pub goes_where : (o : Option Program) (s : SessionState) → s.settings.program ≡ o

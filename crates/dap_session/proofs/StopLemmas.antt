@@ -1,5 +1,6 @@
 -- What requests and slices tell of stops and of ends.
 use Rattle.std.proofs.Common.{◌≡◌, ◌∙◌, ℕ, List, [], ◌∷◌, ◌++◌, Bool, true, false, not, ◌&&◌, Option, Some}
+use Rattle.std.proofs.Common.{option_map, if◌then◌else◌}
 use Rattle.std.proofs.Common.{None, Ok, refl, sym, ap, subst, inl, inr, true≢false, fold, filter_map}
 use Rattle.std.proofs.lemmas.Bool.{cases_Bool, and_parts}
 use Rattle.std.proofs.lemmas.List.Sums.{fold-append}
@@ -32,32 +33,67 @@ use Rattle.dap_editor.specs.declared.request.EditorCommand.{EditorCommand}
 use Rattle.dap_editor.specs.declared.request.EditorCommand.TheVariants as editor
 use Rattle.dap_program.specs.Messages.{as_messages}
 use Rattle.dap_program.specs.Slices.{console_events, line_events, outcome_events, run_end_events}
+use Rattle.dap_editor.specs.declared.message.UndefinedOpcode.{UndefinedOpcode}
+use Rattle.dap_editor.specs.declared.request.Launch.{Launch as LaunchOf}
+use Rattle.dap_program.specs.declared.end.EndPolicy.{EndPolicy}
+use Rattle.dap_program.specs.declared.end.EndPolicy.TheVariants.{Exit, Hold}
+use Rattle.dap_program.specs.Ends.{exit_code, held_at_end}
 use Rattle.dap_launch.specs.declared.file.FileText.{FileText}
-use Rattle.dap_session.specs.States.{SessionState, session_before_requests, with_board, is_live}
+use Rattle.dap_launch.specs.declared.program.Phase.{Phase}
+use Rattle.dap_launch.specs.declared.program.Phase.TheVariants as phase
+use Rattle.dap_launch.specs.declared.program.Program.{Program}
+use Rattle.dap_launch.specs.Lives.{in_phase, is_live, launch_policy, policy_of, ended_phase, ended_program}
+use Rattle.dap_launch.specs.Lives.{end_of, exception_of}
+use Rattle.lab_shown.specs.declared.step.StepKind.{StepKind}
+use Rattle.lab_shown.specs.declared.step.Granularity.{Granularity}
+use Rattle.dap_session.specs.States.{SessionState, no_events, session_before_requests, with_board}
 use Rattle.dap_session.specs.States.{is_running, wants_slice}
-use Rattle.dap_session.specs.Requests.{set_initialized, commanding, editing, objection, asking}
+use Rattle.dap_session.specs.Requests.{resuming_from, explaining, set_initialized, commanding, editing}
+use Rattle.dap_session.specs.Requests.{objection, asking}
 use Rattle.dap_session.specs.Requests.{asking_unless, turn}
 use Rattle.dap_session.specs.Slices.{Input, request, slice, settings_after, slicing, slice_told, step}
 use Rattle.dap_session.specs.Slices.{play_all}
-use Rattle.dap_session.specs.Laws.{Shown, unstopped, shown_after, shown_by, shown_for, ends_told}
+use Rattle.dap_session.specs.Laws.{Shown, stopped, unstopped, shown_after, shown_by, shown_for, ends_told}
 use Rattle.dap_session.specs.Laws.{ends_between, has_run, has_begun, events_in, asks_to_load, loads}
 use Rattle.dap_session.proofs.BoardLemmas.{SameRun, kept_without, kept_dump, kept_poke, kept_press}
 use Rattle.dap_session.proofs.BoardLemmas.{kept_steps}
-use Rattle.dap_session.proofs.RunLemmas.{seen, seen_board, IsReached, idle, lively, begun_runs, with_run}
+use Rattle.dap_session.proofs.RunLemmas.{Seen, seen, seen_board, PhaseFits, ProgramFits, IsReached, no_run}
+use Rattle.dap_session.proofs.RunLemmas.{idle, lively}
+use Rattle.dap_session.proofs.RunLemmas.{begun_runs, with_run, none_living}
 use Rattle.dap_session.proofs.RunLemmas.{over_seen, Follows, still, runs_on, ends_live, IsCalm, calm_follows}
-use Rattle.dap_session.proofs.TurnLemmas.{GoesBy, goes_either, goes_board, goes_shown, goes_evaluating}
+use Rattle.dap_session.proofs.TurnLemmas.{GoesBy, goes_either, goes_changed, goes_board, goes_shown}
+use Rattle.dap_session.proofs.TurnLemmas.{goes_evaluating}
 use Rattle.dap_session.proofs.TurnLemmas.{goes_lines, goes_functions, goes_writing, goes_paused}
-use Rattle.dap_session.proofs.TurnLemmas.{goes_resumed, goes_resetting, goes_terminating}
+use Rattle.dap_session.proofs.TurnLemmas.{goes_resumed, goes_finished, goes_resetting, goes_terminating}
 use Rattle.dap_session.proofs.StartLemmas.{goes_where, calm_none, FollowsTurn, follows_launch}
 use Rattle.dap_session.proofs.StartLemmas.{follows_restart}
 
 -- ---- the requests that load nothing
 
+goes_continued : (o : Option End) (s : SessionState) → IsReached (seen s)
+    → GoesBy s (resuming_from o command.Continue s)
+unfolding command_result
+goes_continued None s reached = goes_resumed s.board.run None _ s refl reached
+goes_continued (Some how) s reached = goes_finished s.board.run None _ (exit_code how) s refl reached
+
+goes_stepped : (o : Option End) (kind : StepKind) (granularity : Granularity) (s : SessionState)
+    → IsReached (seen s) → GoesBy s (resuming_from o (command.Step kind granularity) s)
+unfolding command_result
+goes_stepped None kind granularity s reached =
+    goes_resumed s.board.run (Some (step_request kind granularity)) _ s refl reached
+goes_stepped (Some how) kind granularity s reached =
+    goes_finished s.board.run (Some (step_request kind granularity)) _ (exit_code how) s refl reached
+
+goes_explaining : (o : Option UndefinedOpcode) (s : SessionState) → IsReached (seen s)
+    → GoesBy s (explaining o s)
+goes_explaining None s reached = still s s reached refl
+goes_explaining (Some undefined) s reached = still s s reached refl
+
 goes_command : (c : DapCommand) (s : SessionState) → IsReached (seen s) → GoesBy s (commanding c s)
 unfolding command_result
 goes_command command.Initialize s reached =
     goes_either s.settings.is_initialized s _ _ (still s s reached refl)
-    (still s (set_initialized s) reached refl)
+    (still s (set_initialized no_events s) reached refl)
 goes_command command.Attach s reached = still s s reached refl
 goes_command command.Disconnect s reached = still s _ reached refl
 goes_command command.ConfigurationDone s reached = goes_where s.settings.program s refl reached
@@ -68,9 +104,9 @@ goes_command (command.StackTrace start levels) s reached = goes_shown (view.Fram
 goes_command (command.Scopes frame) s reached = goes_shown (view.Scopes frame) s reached
 goes_command (command.Variables reference start count) s reached =
     goes_shown (view.Variables reference start count) s reached
-goes_command command.Continue s reached = goes_resumed s.board.run None _ s refl reached
+goes_command command.Continue s reached = goes_continued (end_of s.settings.program) s reached
 goes_command (command.Step kind granularity) s reached =
-    goes_resumed s.board.run (Some (step_request kind granularity)) _ s refl reached
+    goes_stepped (end_of s.settings.program) kind granularity s reached
 goes_command command.Pause s reached = goes_paused s.board.is_attached s.board.run s refl reached
 goes_command (command.Disassemble address offset instruction_offset count) s reached =
     goes_shown (view.Code (first_line s.board.machine address offset instruction_offset) count) s reached
@@ -80,24 +116,28 @@ goes_command (command.DumpCell code) s reached =
 goes_command command.DebugInfo s reached = goes_shown view.Info s reached
 goes_command command.InspectVariables s reached = goes_shown (view.Variables 1 0 0) s reached
 goes_command (command.SetVariable reference name value) s reached =
-    goes_board body_of _ s reached (kept_poke reference name value s.board)
+    goes_changed body_of _ s reached (kept_poke reference name value s.board)
 goes_command (command.BoardSwitches value) s reached =
-    goes_board (λ _. body.Empty) (result_of (event.Switches value) s.board) s reached
+    goes_changed (λ _. body.Empty) (result_of (event.Switches value) s.board) s reached
     (record { run = refl; is_attached = refl })
 goes_command (command.BoardPress vector) s reached =
-    goes_board (λ _. body.Empty) (result_of (event.Press vector) s.board) s reached (kept_press vector
+    goes_changed (λ _. body.Empty) (result_of (event.Press vector) s.board) s reached (kept_press vector
     s.board)
 goes_command (command.BoardType text) s reached =
-    goes_board (λ _. body.Empty) (result_of (event.Typed (latin_bytes text)) s.board) s reached
+    goes_changed (λ _. body.Empty) (result_of (event.Typed (latin_bytes text)) s.board) s reached
     (record { run = refl; is_attached = refl })
 goes_command (command.BoardAliases aliases) s reached =
-    goes_board (λ _. body.Empty) (result_of (event.SetBoard (board_with aliases)) s.board) s reached
+    goes_changed (λ _. body.Empty) (result_of (event.SetBoard (board_with aliases)) s.board) s reached
     (kept_without s.board.run s.board (Ok (answer.BoardSet, _)) (record { run = refl; is_attached = refl }))
 
 goes_editing : (c : EditorCommand) (s : SessionState) → IsReached (seen s) → GoesBy s (editing c s)
+goes_editing (editor.Initialize supported) s reached =
+    goes_either s.settings.is_initialized s _ _ (still s s reached refl)
+    (still s (set_initialized supported s) reached refl)
 goes_editing editor.Terminate s reached = goes_terminating s reached
 goes_editing (editor.SetFunctionBreakpoints names) s reached = goes_functions names s reached
 goes_editing (editor.Evaluate expression c) s reached = goes_evaluating expression c s reached
+goes_editing editor.ExceptionInfo s reached = goes_explaining (exception_of s.settings.program) s reached
 goes_editing other s reached = still s s reached refl
 
 -- ---- all requests
@@ -135,7 +175,8 @@ quiet_asking (asked.Board c) found s reached dead is = (goes_command c s reached
 quiet_asking (asked.Faulty f) found s reached dead is = refl
 quiet_asking (asked.Editor c) found s reached dead is = (goes_editing c s reached).quiet dead
 
-quiet_unless : (o : Option Text) (a : RequestContent) (found : Option FileText) (s : SessionState) → IsReached (seen s)
+quiet_unless : (o : Option Text) (a : RequestContent) (found : Option FileText) (s : SessionState)
+    → IsReached (seen s)
     → is_live s.settings.program ≡ false → asks_to_load a ≡ false → (asking_unless o a found s).events ≡ []
 quiet_unless (Some text) a found s reached dead is = refl
 quiet_unless None a found s reached dead is = quiet_asking a found s reached dead is
@@ -155,42 +196,119 @@ calm_line : (b : Bool) → IsCalm (line_events b)
 calm_line true = record { stops = λ d. refl; ends = refl }
 calm_line false = calm_none
 
-over_shown : (e : End) (d : Shown) → fold shown_after d (as_messages (run_end_events e)) ≡ unstopped
+over_shown : (e : End) (d : Shown) → fold shown_after d (as_messages (run_end_events Exit e)) ≡ unstopped
 over_shown end.Halted d = refl
 over_shown (end.Undefined opcode pc) d = refl
 
-over_ends : (e : End) → ends_told (as_messages (run_end_events e)) ≡ 1
+over_ends : (e : End) → ends_told (as_messages (run_end_events Exit e)) ≡ 1
 over_ends end.Halted = refl
 over_ends (end.Undefined opcode pc) = refl
 
+held_shown : (e : End) (d : Shown) → fold shown_after d (as_messages (run_end_events Hold e)) ≡ stopped
+held_shown end.Halted d = refl
+held_shown (end.Undefined opcode pc) d = refl
+
+held_ends : (e : End) → ends_told (as_messages (run_end_events Hold e)) ≡ 0
+held_ends end.Halted = refl
+held_ends (end.Undefined opcode pc) = refl
+
+configured_phase : (h : Phase) (run : RunState) (c : Bool) → PhaseFits h run c → has_run run ≡ true
+    → c ≡ true
+configured_phase phase.Loaded run c fits has = absurd (no_run run fits has)
+configured_phase phase.Begun run c fits has = fits.1
+configured_phase (phase.Held how) run c fits has = fits.1
+configured_phase phase.Over run c fits has = absurd (no_run run fits has)
+
+-- a program whose run ended so, on this board
+abbrev ended_seen : EndPolicy → End → Program → Board → Bool → Seen
+ended_seen policy e p b is_configured =
+    let b' = held_at_end policy (outcome.End e) (left_by (outcome.End e) b) in
+    record {
+      program = Some (in_phase (ended_phase policy e) p);
+      run = b'.run;
+      is_attached = b'.is_attached;
+      is_configured = is_configured;
+    }
+
+follows_ended : (policy : EndPolicy) (e : End) (p : Program) (b : Board) (s : SessionState)
+    → s.settings.program ≡ Some p → (policy ≡ Hold → p.launch.is_debugged ≡ true) → SameRun s.board b
+    → IsReached (seen s) → has_run s.board.run ≡ true
+    → Follows (seen s) (as_messages (run_end_events policy e))
+    (ended_seen policy e p b s.settings.is_configured)
+follows_ended Exit e p b s on debugs kept reached has =
+    let es = as_messages (run_end_events Exit e) in
+    let same : over_seen (seen s) ≡ ended_seen Exit e p b s.settings.is_configured = λ i. record {
+      program = option_map (in_phase phase.Over) (on i);
+      run = NoRun;
+      is_attached = sym kept.is_attached i;
+      is_configured = s.settings.is_configured;
+    } in
+    subst (λ w. Follows (seen s) es w) same
+    (ends_live (seen s) es reached (lively (seen s) reached has) (over_shown e (shown_for s.board.run))
+    (over_ends e))
+follows_ended Hold e p b s on debugs kept reached has =
+    let fits : ProgramFits (Some p) s.board.run s.board.is_attached s.settings.is_configured =
+    subst (λ o. ProgramFits o s.board.run s.board.is_attached s.settings.is_configured) on reached in
+    record {
+      reached = (
+        sym (debugs refl),
+        (refl, configured_phase p.phase s.board.run s.settings.is_configured fits.1 has),
+      );
+      stops = held_shown e (shown_for s.board.run);
+      ends = held_ends e ∙ none_living (is_live s.settings.program) true refl;
+    }
+
+held_if : (b : Bool) → (if b then Hold else Exit) ≡ Hold → b ≡ true
+held_if true is = refl
+held_if false is = absurd cc
+
+held_debugged : (l : LaunchOf) → launch_policy l ≡ Hold → l.is_debugged ≡ true
+held_debugged l is =
+    (and_parts l.stops_at_end l.is_debugged (held_if (l.stops_at_end && l.is_debugged) is)).1
+
+follows_end : (o : Option Program) (e : End) (b : Board) (s : SessionState) → s.settings.program ≡ o
+    → SameRun s.board b → IsReached (seen s) → has_run s.board.run ≡ true
+    → Follows (seen s) (as_messages (run_end_events (policy_of o) e)) (record {
+      program = option_map (ended_program e) o;
+      run = (held_at_end (policy_of o) (outcome.End e) (left_by (outcome.End e) b)).run;
+      is_attached = (held_at_end (policy_of o) (outcome.End e) (left_by (outcome.End e) b)).is_attached;
+      is_configured = s.settings.is_configured;
+    })
+follows_end None e b s on kept reached has =
+    absurd (true≢false (sym (lively (seen s) reached has) ∙ ap is_live on))
+follows_end (Some p) e b s on kept reached has =
+    follows_ended (launch_policy p.launch) e p b s on (held_debugged p.launch) kept reached has
+
 -- the session after a slice of its run that ended so, on this board
 abbrev left : SliceOutcome → Board → SessionState → SessionState
-left o b s = record { board = left_by o b; settings = settings_after o s.settings }
+left o b s = record {
+  board = held_at_end (policy_of s.settings.program) o (left_by o b);
+  settings = settings_after o s.settings;
+}
 
 follows_outcome : (o : SliceOutcome) (b : Board) (s : SessionState) → SameRun s.board b → IsReached (seen s)
-    → has_run s.board.run ≡ true → Follows (seen s) (as_messages (outcome_events o)) (seen (left o b s))
+    → has_run s.board.run ≡ true
+    → Follows (seen s) (as_messages (outcome_events (policy_of s.settings.program) o)) (seen (left o b s))
 follows_outcome outcome.More b s kept reached has =
     (still s (with_board b s) reached (seen_board b s kept)).follows
 follows_outcome outcome.Waiting b s kept reached has =
     (still s (with_board b s) reached (seen_board b s kept)).follows
 follows_outcome (outcome.Stop r) b s kept reached has =
-    let es = as_messages (outcome_events (outcome.Stop r)) in
+    let es = as_messages (outcome_events (policy_of s.settings.program) (outcome.Stop r)) in
     subst (λ a. Follows (seen s) es (record (with_run Stopped (seen s)) { is_attached = a }))
     (sym kept.is_attached) (runs_on Stopped (seen s) es reached has refl refl refl)
 follows_outcome (outcome.End e) b s kept reached has =
-    let es = as_messages (run_end_events e) in
-    subst (λ a. Follows (seen s) es (record (over_seen (seen s)) { is_attached = a })) (sym kept.is_attached)
-    (ends_live (seen s) es reached (lively (seen s) reached has) (over_shown e (shown_for s.board.run))
-    (over_ends e))
+    follows_end s.settings.program e b s refl kept reached has
 
 follows_slicing : (p : ℕ × SliceOutcome) (s : SessionState) → IsReached (seen s) → has_run s.board.run ≡ true
     → Follows (seen s) (slicing p s).messages (seen (slicing p s).state)
 follows_slicing (k, ending) s reached has =
     let written = filter_map written_to_console (traffic_of k s.board) in
     let asks = list_any wants_line (traffic_of k s.board) in
-    calm_follows (console_events written) (line_events asks ++ outcome_events ending) _ _
+    let last = outcome_events (policy_of s.settings.program) ending in
+    calm_follows (console_events written) (line_events asks ++ last) _ _
     (calm_console written)
-    (calm_follows (line_events asks) (outcome_events ending) _ _ (calm_line asks)
+    (calm_follows (line_events asks) last _ _ (calm_line asks)
     (follows_outcome ending (after_steps k s.board) s (kept_steps k s.board) reached has))
 
 running_has : (r : RunState) → is_running r ≡ true → has_run r ≡ true

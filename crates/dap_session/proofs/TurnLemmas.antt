@@ -1,6 +1,7 @@
 -- What a request that begins no program tells of stops and of ends.
-use Rattle.std.proofs.Common.{◌≡◌, ◌-◌, ℕ, List, ◌++◌, Bool, true, false, Option, Some, None, Result, Ok, Err}
-use Rattle.std.proofs.Common.{codes, take, if◌then◌else◌, refl, ap}
+use Rattle.std.proofs.Common.{◌≡◌, ◌∙◌, ◌-◌, ℕ, List, ◌++◌, Bool, true, false, Option, Some, None, Result, Ok}
+use Rattle.std.proofs.Common.{Err}
+use Rattle.std.proofs.Common.{codes, take, if◌then◌else◌, refl, sym, ap, subst}
 use Rattle.base_text.specs.Bytes.{Bytes, Text}
 use Rattle.base_text.specs.Latin.{latin_bytes}
 use Rattle.lab_views.specs.declared.view.View.{View}
@@ -10,6 +11,7 @@ use Rattle.lab_core.specs.declared.event.Event.TheVariants as event
 use Rattle.lab_core.specs.declared.event.StepRequest.{StepRequest}
 use Rattle.lab_core.specs.declared.run_state.RunState.{RunState}
 use Rattle.lab_core.specs.declared.run_state.RunState.TheVariants.{NoRun, Running, Stopped}
+use Rattle.lab_core.specs.Board.{Board}
 use Rattle.lab_core.specs.Events.{EventResult, result_of, while_stopped, while_running, while_attached}
 use Rattle.lab_core.specs.Events.{going_on}
 use Rattle.lab_core.specs.Events.{after_stop as board_stopped}
@@ -28,20 +30,24 @@ use Rattle.dap_inspect.specs.Expressions.{expression_text}
 use Rattle.dap_points.specs.Points.{has_place}
 use Rattle.dap_program.specs.declared.messages.FollowUp.TheVariants as follow
 use Rattle.dap_program.specs.Boards.{after}
-use Rattle.dap_program.specs.Memory.{with_bytes_at}
-use Rattle.dap_program.specs.Messages.{events_of}
-use Rattle.dap_session.specs.States.{SessionState, with_board, is_live, program_over}
-use Rattle.dap_session.specs.Turns.{Replied}
+use Rattle.dap_program.specs.Memory.{address_at, with_bytes_at}
+use Rattle.dap_launch.specs.Lives.{is_live}
+use Rattle.dap_editor.specs.declared.message.EditorEvent.TheVariants as event_told
+use Rattle.dap_program.specs.Messages.{as_messages, event_if, change_events, events_of}
+use Rattle.dap_session.specs.States.{SessionState, with_board, program_over}
+use Rattle.dap_session.specs.Turns.{Replied, change_follow}
 use Rattle.dap_session.specs.Breakpoints.{program_at, setting_lines, setting_functions}
 use Rattle.dap_session.specs.Evaluations.{behind, byte_spelled, byte_command, command_with, command_reply}
 use Rattle.dap_session.specs.Evaluations.{value_told, prompting, evaluating}
-use Rattle.dap_session.specs.Memory.{is_stopped, address_at, writing_from, writing}
-use Rattle.dap_session.specs.Requests.{board_done, resetting, terminating}
+use Rattle.dap_session.specs.Memory.{is_stopped, writing_from, writing}
+use Rattle.dap_session.specs.Requests.{board_done, finish_done, resetting, terminating}
 use Rattle.dap_session.specs.Laws.{has_run}
 use Rattle.dap_session.proofs.BoardLemmas.{KeepsRun, kept_press, kept_show, kept_where, kept_labels}
 use Rattle.dap_session.proofs.BoardLemmas.{kept_written, run_interrupted, still_attached}
-use Rattle.dap_session.proofs.RunLemmas.{seen, seen_board, IsReached, both, lively, over_seen, Goes, still}
-use Rattle.dap_session.proofs.RunLemmas.{runs_on, goes_over}
+use Rattle.dap_session.proofs.RunLemmas.{seen, seen_board, IsReached, both, lively, over_seen, Follows, Goes}
+use Rattle.dap_session.proofs.RunLemmas.{still}
+use Rattle.dap_session.proofs.RunLemmas.{IsCalm, calm_still}
+use Rattle.dap_session.proofs.RunLemmas.{runs_on, goes_ended, goes_over}
 
 abbrev pub GoesBy : SessionState → Replied → Type 0
 GoesBy s r = Goes s (events_of r.follow) r.state
@@ -52,6 +58,36 @@ pub goes_either : (b : Bool) (s : SessionState) (r r' : Replied) → GoesBy s r 
     → GoesBy s (if b then r else r')
 goes_either true s r r' one two = one
 goes_either false s r r' one two = two
+
+calm_changes : (x y : Bool) → IsCalm (event_if x event_told.Invalidated ++ event_if y event_told.Memory)
+calm_changes true true = record { stops = λ d. refl; ends = refl }
+calm_changes true false = record { stops = λ d. refl; ends = refl }
+calm_changes false true = record { stops = λ d. refl; ends = refl }
+calm_changes false false = record { stops = λ d. refl; ends = refl }
+
+still_if : (live : Bool) (s s' : SessionState) → is_live s.settings.program ≡ live → IsReached (seen s)
+    → seen s' ≡ seen s
+    → Goes s (events_of (if live then follow.Changed s.settings.supported else follow.Nothing)) s'
+still_if true s s' live reached is =
+    let supported = s.settings.supported in
+    let es = change_events supported in
+    record {
+      follows =
+          subst (λ w. Follows (seen s) (as_messages es) w) (sym is)
+          (calm_still es (seen s) reached (calm_changes supported.invalidated supported.memory));
+      quiet = λ dead. both (is_live s.settings.program) live dead;
+    }
+still_if false s s' dead reached is = still s s' reached is
+
+-- what is changed by hand leaves the run as it was
+changed : (s s' : SessionState) → IsReached (seen s) → seen s' ≡ seen s
+    → Goes s (events_of (change_follow s)) s'
+changed s s' reached is = still_if (is_live s.settings.program) s s' refl reached is
+
+pub goes_changed : (to_body : Answer → Body) (g : EventResult) (s : SessionState) → IsReached (seen s)
+    → KeepsRun s.board g → GoesBy s (board_done (with_body to_body g) (change_follow s) s)
+goes_changed to_body (Ok (a, b)) s reached kept = changed s (with_board b s) reached (seen_board b s kept)
+goes_changed to_body (Err f) s reached kept = still s s reached refl
 
 pub goes_board : (to_body : Answer → Body) (g : EventResult) (s : SessionState) → IsReached (seen s)
     → KeepsRun s.board g → GoesBy s (board_done (with_body to_body g) follow.Nothing s)
@@ -64,7 +100,8 @@ goes_shown v s reached = goes_board body_of (result_of (event.Show v) s.board) s
 
 goes_command_reply : (to_body : Answer → Body) (g : EventResult) (s : SessionState) → IsReached (seen s)
     → KeepsRun s.board g → GoesBy s (command_reply (with_body to_body g) s)
-goes_command_reply to_body (Ok (a, b)) s reached kept = still s (with_board b s) reached (seen_board b s kept)
+goes_command_reply to_body (Ok (a, b)) s reached kept =
+    changed s (with_board b s) reached (seen_board b s kept)
 goes_command_reply to_body (Err f) s reached kept = still s s reached refl
 
 goes_switches : (o : Option ℕ) (expression : Text) (s : SessionState) → IsReached (seen s)
@@ -126,10 +163,11 @@ goes_written : (o : Option ℕ) (bytes : Bytes) (s : SessionState) → IsReached
 goes_written None bytes s reached = still s s reached refl
 goes_written (Some start) bytes s reached =
     let all = take (65536 - start) bytes in
-    still s (with_board (with_bytes_at start all s.board) s) reached
+    changed s (with_board (with_bytes_at start all s.board) s) reached
     (seen_board _ s (kept_written all start s.board))
 
-pub goes_writing : (address : ℕ) (offset : SignedOffset) (bytes : Bytes) (s : SessionState) → IsReached (seen s)
+pub goes_writing : (address : ℕ) (offset : SignedOffset) (bytes : Bytes) (s : SessionState)
+    → IsReached (seen s)
     → GoesBy s (writing address offset bytes s)
 goes_writing address offset bytes s reached =
     goes_either (is_stopped s.board.run) s _ _ (goes_written (address_at address offset) bytes s reached)
@@ -166,18 +204,33 @@ goes_resumed Stopped step to_body s is reached =
 
 -- ---- a program ends
 
+seen_interrupted : (b : Board) (s : SessionState) → b.is_attached ≡ s.board.is_attached
+    → seen (program_over (with_board (after event.Interrupt b) s)) ≡ over_seen (seen s)
+seen_interrupted b s attached = λ i. record {
+  program = (over_seen (seen s)).program;
+  run = run_interrupted b i;
+  is_attached = (still_attached b ∙ attached) i;
+  is_configured = s.settings.is_configured;
+}
+
+pub goes_finished : (r : RunState) (step : Option StepRequest) (to_body : Answer → Body) (code : ℕ)
+    (s : SessionState)
+    → s.board.run ≡ r → IsReached (seen s)
+    → GoesBy s (finish_done (with_body to_body (while_stopped r (Ok (
+      answer.Accepted,
+      going_on
+          step s.board,
+    )))) code s)
+goes_finished NoRun step to_body code s is reached = still s s reached refl
+goes_finished Running step to_body code s is reached = still s s reached refl
+goes_finished Stopped step to_body code s is reached =
+    goes_ended code s _ (lively (seen s) reached (ap has_run is)) reached
+    (seen_interrupted (going_on step s.board) s refl)
+
 pub goes_resetting : (s : SessionState) → IsReached (seen s) → GoesBy s (resetting s)
 unfolding command_result
 goes_resetting s reached = goes_over (is_live s.settings.program) s _ refl reached refl
 
-seen_terminated : (s : SessionState)
-    → seen (program_over (with_board (after event.Interrupt s.board) s)) ≡ over_seen (seen s)
-seen_terminated s = λ i. record {
-  program = (over_seen (seen s)).program;
-  run = run_interrupted s.board i;
-  is_attached = still_attached s.board i;
-  is_configured = s.settings.is_configured;
-}
-
 pub goes_terminating : (s : SessionState) → IsReached (seen s) → GoesBy s (terminating s)
-goes_terminating s reached = goes_over (is_live s.settings.program) s _ refl reached (seen_terminated s)
+goes_terminating s reached =
+    goes_over (is_live s.settings.program) s _ refl reached (seen_interrupted s.board s refl)

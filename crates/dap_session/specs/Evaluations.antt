@@ -19,7 +19,7 @@ use Rattle.dap_program.specs.Refusals.{board_refusal}
 use Rattle.dap_session.specs.declared.prompt.PromptCommand.{PromptCommand}
 use Rattle.dap_session.specs.declared.prompt.PromptCommand.TheVariants as prompt
 use Rattle.dap_session.specs.States.{SessionState, with_board}
-use Rattle.dap_session.specs.Turns.{Replied, refusing, succeeding}
+use Rattle.dap_session.specs.Turns.{Replied, change_follow, refusing, succeeding}
 
 -- ---- lines of the debugger's prompt
 
@@ -60,7 +60,7 @@ prompt_command text =
 
 -- the reply to a command of the prompt that the board performed
 abbrev pub command_reply : Performed → SessionState → Replied
-command_reply (Ok (body, b)) s = succeeding (Evaluation (codes "ok")) Nothing (with_board b s)
+command_reply (Ok (body, b)) s = succeeding (Evaluation (codes "ok")) (change_follow s) (with_board b s)
 command_reply (Err fault) s = refusing (board_refusal fault) s
 
 -- ---- expressions

@@ -8,6 +8,7 @@ use Rattle.dap_launch.specs.declared.program.Phase.{Phase}
 use Rattle.dap_launch.specs.declared.program.Phase.TheVariants as phase
 use Rattle.dap_launch.specs.declared.program.Program.{Program}
 use Rattle.dap_launch.specs.Files.{text_in}
+use Rattle.dap_launch.specs.Lives.{in_phase}
 use Rattle.dap_launch.specs.Programs.{program_of, pauses, begun_follow, program_lines, program_labels}
 use Rattle.dap_launch.specs.Programs.{program_board}
 use Rattle.dap_program.specs.declared.load.LoadFault.{LoadFault}
@@ -19,7 +20,7 @@ use Rattle.dap_program.specs.Boards.{begin_run}
 use Rattle.dap_program.specs.Failures.{load_refusal, load_event}
 use Rattle.dap_program.specs.Loading.{load_result}
 use Rattle.dap_program.specs.Openings.{opening_events, accepted_outcome}
-use Rattle.dap_session.specs.States.{SessionState, with_board, with_program, in_phase}
+use Rattle.dap_session.specs.States.{SessionState, with_board, with_program}
 use Rattle.dap_session.specs.Turns.{Turn, Replied, turn_of, refusing, accepting}
 
 -- ---- how it begins
@@ -34,6 +35,7 @@ beginning p s = accepting (begun_follow Launch p.launch)
 abbrev pub beginning_in : Phase → Program → SessionState → Replied
 beginning_in phase.Loaded p s = beginning p s
 beginning_in phase.Begun p s = accepting Nothing s
+beginning_in (phase.Held how) p s = accepting Nothing s
 beginning_in phase.Over p s = accepting Nothing s
 
 abbrev pub beginning_where : Option Program → SessionState → Replied
@@ -47,7 +49,8 @@ abbrev pub begin_if_configured : Program → SessionState → SessionState
 begin_if_configured p s = if s.settings.is_configured then (beginning p s).state else s
 
 abbrev pub started_follow : LoadReason → Program → SessionState → FollowUp
-started_follow cause p s = if s.settings.is_configured then begun_follow cause p.launch else Nothing
+started_follow cause p s =
+    if s.settings.is_configured then begun_follow cause p.launch else Nothing
 
 -- a loaded program, on its board, takes the place of what was there
 abbrev pub installing : LoadReason → Program → Board → SessionState → Turn

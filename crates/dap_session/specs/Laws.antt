@@ -1,8 +1,9 @@
 -- What the laws say of the messages of a session.
 use Rattle.std.specs.Prelude.{◌≡◌, ℕ, List, [], ◌∷◌, ◌++◌, Bool, true, false, not, ◌&&◌, Option, Some, None}
-use Rattle.std.specs.Prelude.{if◌then◌else◌}
-use Rattle.std.specs.List.{filter_map, flat_map, fold, sum_by}
-use Rattle.base_text.specs.Bytes.{Bytes}
+use Rattle.std.specs.Prelude.{if◌then◌else◌, ◌⊎◌}
+use Rattle.std.specs.List.{filter_map, flat_map, fold, sum_by, list_any}
+use Rattle.base_text.specs.Bytes.{Bytes, Text}
+use Rattle.lab_core.specs.declared.answer.End.{End}
 use Rattle.lab_core.specs.declared.answer.SliceOutcome.{SliceOutcome}
 use Rattle.lab_core.specs.declared.run_state.RunState.{RunState}
 use Rattle.lab_core.specs.declared.run_state.RunState.TheVariants.{NoRun, Running, Stopped}
@@ -12,18 +13,29 @@ use Rattle.dap_editor.specs.declared.message.EditorEvent.{EditorEvent}
 use Rattle.dap_editor.specs.declared.message.EditorEvent.TheVariants as event
 use Rattle.dap_editor.specs.declared.message.Message.{Message}
 use Rattle.dap_editor.specs.declared.message.Message.TheVariants as message
+use Rattle.dap_editor.specs.declared.message.EditorOutcome.{EditorOutcome}
+use Rattle.dap_editor.specs.declared.message.EditorOutcome.TheVariants.{Refused}
 use Rattle.dap_editor.specs.declared.message.OutputCategory.TheVariants.{Stdout}
+use Rattle.dap_editor.specs.declared.request.EvaluateContext.TheVariants as context
+use Rattle.dap_talk.specs.declared.command.DapCommand.TheVariants as command
+use Rattle.dap_board.specs.Commands as board
 use Rattle.dap_editor.specs.declared.request.RequestContent.{RequestContent}
 use Rattle.dap_editor.specs.declared.request.RequestContent.TheVariants as asked
 use Rattle.dap_editor.specs.declared.request.EditorCommand.TheVariants as editor
 use Rattle.dap_program.specs.declared.messages.RequestId.{RequestId}
+use Rattle.dap_program.specs.declared.end.EndPolicy.TheVariants.{Hold}
+use Rattle.dap_program.specs.Ends.{exit_code}
+use Rattle.dap_program.specs.Messages.{as_messages, end_events}
+use Rattle.dap_program.specs.Slices.{policy_events}
 use Rattle.lab_core.specs.SliceEnds.{slice_end}
 use Rattle.i80_devs.specs.Console.{written_to_console}
 use Rattle.dap_launch.specs.declared.program.Phase.{Phase}
 use Rattle.dap_launch.specs.declared.program.Phase.TheVariants as phase
 use Rattle.dap_launch.specs.declared.program.Program.{Program}
-use Rattle.dap_session.specs.States.{SessionState, is_live, wants_slice}
-use Rattle.dap_session.specs.Slices.{Input, request, slice, caller_of, step}
+use Rattle.dap_launch.specs.Lives.{is_live, policy_of}
+use Rattle.dap_session.specs.States.{SessionState, wants_slice}
+use Rattle.dap_session.specs.Requests.{turn}
+use Rattle.dap_session.specs.Slices.{Told, Input, request, slice, caller_of, step}
 
 -- ---- responses
 
@@ -112,6 +124,7 @@ has_run Stopped = true
 abbrev pub is_begun : Phase → Bool
 is_begun phase.Loaded = false
 is_begun phase.Begun = true
+is_begun (phase.Held how) = true
 is_begun phase.Over = false
 
 -- a program has begun, and isn't over
@@ -150,3 +163,59 @@ pub record EndsAreTold (s : SessionState) : Type 0 where
   -- where a live program ends `terminated` goes out once, and nowhere else
   pub end : (input : Input) → let after = (step input s).state in
       ends_told (step input s).messages ≡ ends_between s.settings.program after.settings.program
+
+-- ---- the end of a run
+
+-- the machine, the devices and the trace are the same
+pub record SameParts (b b' : Board) : Type 0 where
+  pub machine : b'.machine ≡ b.machine
+  pub past : b'.past ≡ b.past
+  pub trace : b'.trace ≡ b.trace
+
+-- A slice's messages, and the session after it, where the run ended so and left this board.
+pub record EndIsTold (how : End) (s : SessionState) (b : Board) (t : Told) : Type 0 where
+  pub parts : SameParts b t.state.board
+  -- the last events say how it ended
+  pub before : List Message
+  pub told : t.messages ≡ before ++ as_messages (policy_events (policy_of s.settings.program) how)
+  -- so does a run that is held once it goes on
+  pub later : policy_of s.settings.program ≡ Hold
+      → (turn (asked.Board command.Continue) None t.state).events ≡ end_events (exit_code how)
+
+-- ---- refusals
+
+pub record LeavesAll (s s' : SessionState) : Type 0 where
+  pub board : s'.board ≡ s.board
+  pub program : s'.settings.program ≡ s.settings.program
+  pub points : s'.settings.points ≡ s.settings.points
+
+-- what is refused leaves the board, the program and the breakpoints
+abbrev pub RefusalLeaves : SessionState → EditorOutcome → SessionState → Type 0
+RefusalLeaves s outcome s' = (text : Text) → outcome ≡ Refused text → LeavesAll s s'
+
+-- ---- changes by hand
+
+abbrev pub is_invalidated : EditorEvent → Bool
+is_invalidated event.Invalidated = true
+is_invalidated other = false
+
+-- the machine, the devices and the trace stay as they were, or it is told that they may have changed
+abbrev pub IsTold : SessionState → List EditorEvent → SessionState → Type 0
+IsTold s events s' = SameParts s.board s'.board ⊎ (list_any is_invalidated events ≡ true)
+
+-- a live program that a request neither loads nor begins nor ends, for an editor that is told of changes
+pub record IsWatched (a : RequestContent) (s s' : SessionState) : Type 0 where
+  pub supported : s.settings.supported.invalidated ≡ true
+  pub live : is_live s.settings.program ≡ true
+  pub program : s'.settings.program ≡ s.settings.program
+  pub loads : asks_to_load a ≡ false
+
+-- a request that only looks
+abbrev pub IsLook : RequestContent → Type 0
+IsLook (asked.Board c) = board.IsLook c
+IsLook (asked.Editor (editor.Evaluate expression context.Other)) = Unit {0}
+IsLook (asked.Editor editor.ExceptionInfo) = Unit {0}
+IsLook (asked.Editor (editor.ReadMemory address offset count)) = Unit {0}
+IsLook (asked.Editor (editor.Disassemble address offset instruction_offset count)) = Unit {0}
+IsLook (asked.Editor editor.LoadedSources) = Unit {0}
+IsLook other = ⊥

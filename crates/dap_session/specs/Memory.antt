@@ -1,8 +1,8 @@
 -- Memory and code (Debug Adapter Protocol, `readMemory`, `writeMemory` and `disassemble`).
-use Rattle.std.specs.Prelude.{ℕ, ◌+◌, ◌-◌, ◌%◌, [], length, take, nat_le, Bool, true, false, Option, Some}
+use Rattle.std.specs.Prelude.{ℕ, ◌-◌, [], length, take, Bool, true, false, Option, Some}
 use Rattle.std.specs.Prelude.{None, codes, if◌then◌else◌}
 use Rattle.base_text.specs.Bytes.{Bytes}
-use Rattle.i80_exec.specs.State.{MachineState, modulo_65536}
+use Rattle.i80_exec.specs.State.{MachineState}
 use Rattle.lab_views.specs.Code.{lines_from, after_instructions}
 use Rattle.dap_answers.specs.declared.answer.Body.TheVariants.{Instructions}
 use Rattle.dap_editor.specs.declared.request.SignedOffset.{SignedOffset}
@@ -11,22 +11,16 @@ use Rattle.dap_editor.specs.declared.message.EditorBody.{EditorBody}
 use Rattle.dap_editor.specs.declared.message.EditorBody.TheVariants as body
 use Rattle.dap_inspect.specs.Memory.{bytes_from}
 use Rattle.dap_inspect.specs.Instructions.{before_instructions}
-use Rattle.dap_program.specs.declared.messages.FollowUp.TheVariants.{Nothing}
-use Rattle.dap_program.specs.Memory.{with_bytes_at}
+use Rattle.dap_program.specs.Memory.{address_at, with_bytes_at}
 use Rattle.dap_program.specs.Refusals.{board_refusal}
 use Rattle.lab_core.specs.declared.fault.EventFault.TheVariants.{NotStopped}
 use Rattle.lab_core.specs.declared.run_state.RunState.{RunState}
 use Rattle.lab_core.specs.declared.run_state.RunState.TheVariants.{NoRun, Running, Stopped}
 use Rattle.lab_core.specs.Board.{Board}
 use Rattle.dap_session.specs.States.{SessionState, with_board}
-use Rattle.dap_session.specs.Turns.{Replied, refusing, succeeding}
+use Rattle.dap_session.specs.Turns.{Replied, change_follow, refusing, succeeding}
 
 -- ---- bytes
-
--- the address at this distance from another, if there is one
-abbrev pub address_at : ℕ → SignedOffset → Option ℕ
-address_at address (Forward n) = if nat_le (address + n) 65535 then Some (address + n) else None
-address_at address (Back n) = if nat_le n address then Some (address - n) else None
 
 -- at most so many bytes; those past the last address are unreadable
 abbrev pub memory_at : Option ℕ → ℕ → ℕ → MachineState → EditorBody
@@ -46,7 +40,7 @@ abbrev pub writing_from : Option ℕ → Bytes → SessionState → Replied
 writing_from None bytes s = refusing (codes "there is no such address") s
 writing_from (Some start) bytes s =
     let all = take (65536 - start) bytes in
-    succeeding (body.Written (length all)) Nothing (with_board (with_bytes_at start all s.board) s)
+    succeeding (body.Written (length all)) (change_follow s) (with_board (with_bytes_at start all s.board) s)
 
 -- only while a run is stopped
 abbrev pub writing : ℕ → SignedOffset → Bytes → SessionState → Replied
@@ -55,11 +49,6 @@ writing address offset bytes s =
     else refusing (board_refusal NotStopped) s
 
 -- ---- code
-
--- the address at this distance from another; addresses wrap
-abbrev pub wrapped_at : ℕ → SignedOffset → ℕ
-wrapped_at address (Forward n) = modulo_65536 (address + n)
-wrapped_at address (Back n) = modulo_65536 (address + (65536 - n % 65536))
 
 -- the address of the line of code that is so many instructions from an address
 abbrev pub first_line : ℕ → SignedOffset → Board → ℕ

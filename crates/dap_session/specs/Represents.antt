@@ -54,7 +54,8 @@ IsLeft (asked.Editor (editor.WriteMemory address offset bytes)) old new =
 IsLeft other old new = new ≡ old
 
 -- The messages are those of `f` for each state that the session represents.
-abbrev pub TellsFor : RequestContent → (SessionState → Told) → SessionFields → Result (List Message) AllocError
+abbrev pub TellsFor : RequestContent → (SessionState → Told) → SessionFields
+    → Result (List Message) AllocError
     → SessionFields
     → Type 0
 TellsFor a f old result new =

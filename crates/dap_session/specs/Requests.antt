@@ -1,12 +1,14 @@
 -- What each request is answered by, and the session after it (Debug Adapter Protocol, "Requests").
-use Rattle.std.specs.Prelude.{ℕ, nat_le, List, [], length, Bool, true, false, not, ◌&&◌, ◌||◌, Option, Some}
+use Rattle.std.specs.Prelude.{ℕ, List, [], true, false, not, ◌||◌, Option, Some}
 use Rattle.std.specs.Prelude.{None, Ok, Err, option_to_list, option_map, codes, if◌then◌else◌}
 use Rattle.base_text.specs.Bytes.{Text}
+use Rattle.lab_core.specs.declared.answer.End.{End}
 use Rattle.lab_core.specs.declared.event.Event.TheVariants.{Interrupt}
 use Rattle.dap_answers.specs.declared.answer.StopReason.TheVariants.{Pause as ByPause}
 use Rattle.dap_talk.specs.declared.command.DapCommand.{DapCommand}
 use Rattle.dap_talk.specs.declared.command.DapCommand.TheVariants as command
 use Rattle.dap_board.specs.Commands.{Performed, command_result}
+use Rattle.dap_editor.specs.declared.message.UndefinedOpcode.{UndefinedOpcode}
 use Rattle.dap_editor.specs.declared.message.EditorBody.TheVariants as body
 use Rattle.dap_editor.specs.declared.message.EditorStop.TheVariants.{Board as AtBoard}
 use Rattle.dap_editor.specs.declared.request.RequestContent.{RequestContent}
@@ -14,28 +16,35 @@ use Rattle.dap_editor.specs.declared.request.RequestContent.TheVariants as asked
 use Rattle.dap_editor.specs.declared.request.EditorCommand.{EditorCommand}
 use Rattle.dap_editor.specs.declared.request.EditorCommand.TheVariants as editor
 use Rattle.dap_editor.specs.declared.request.SignedOffset.{SignedOffset}
-use Rattle.dap_editor.specs.declared.request.SignedOffset.TheVariants.{Forward, Back}
+use Rattle.dap_editor.specs.declared.request.SupportedEvents.{SupportedEvents}
 use Rattle.dap_program.specs.declared.messages.FollowUp.{FollowUp}
 use Rattle.dap_program.specs.declared.messages.FollowUp.TheVariants as follow
 use Rattle.dap_program.specs.Boards.{after}
+use Rattle.dap_program.specs.Bounds.{opens, is_bounded}
+use Rattle.dap_program.specs.Ends.{exit_code}
+use Rattle.dap_program.specs.Memory.{address_at, wrapped_at}
 use Rattle.dap_program.specs.Refusals.{board_refusal, request_refusal}
 use Rattle.dap_launch.specs.declared.file.FileText.{FileText}
 use Rattle.dap_launch.specs.declared.program.Program.{Program}
-use Rattle.dap_session.specs.States.{SessionState, with_board, with_waits, is_live, program_over}
-use Rattle.dap_session.specs.Turns.{Turn, Replied, turn_of, refusing, succeeding, accepting}
+use Rattle.dap_launch.specs.Lives.{is_live, end_of, exception_of}
+use Rattle.dap_session.specs.States.{SessionState, no_events, with_board, with_waits, program_over}
+use Rattle.dap_session.specs.Turns.{Turn, Replied, turn_of, change_follow, refusing, succeeding, accepting}
 use Rattle.dap_session.specs.Breakpoints.{setting_lines, setting_functions}
 use Rattle.dap_session.specs.Evaluations.{evaluating}
-use Rattle.dap_session.specs.Memory.{address_at, memory_at, writing, wrapped_at, first_line, code_at}
+use Rattle.dap_session.specs.Memory.{memory_at, writing, first_line, code_at}
 use Rattle.dap_session.specs.Launches.{beginning_where, launching, restarting}
 
 -- ---- commands of a board
 
 -- the event behind the response to a command
-abbrev pub follow_of : DapCommand → FollowUp
-follow_of command.Continue = follow.Continued
-follow_of (command.Step kind granularity) = follow.Continued
-follow_of command.Pause = follow.Stopped (AtBoard ByPause)
-follow_of other = follow.Nothing
+abbrev pub follow_of : DapCommand → SessionState → FollowUp
+follow_of command.Pause s = follow.Stopped (AtBoard ByPause)
+follow_of (command.SetVariable reference name value) s = change_follow s
+follow_of (command.BoardSwitches value) s = change_follow s
+follow_of (command.BoardPress vector) s = change_follow s
+follow_of (command.BoardType text) s = change_follow s
+follow_of (command.BoardAliases has_aliases) s = change_follow s
+follow_of other s = follow.Nothing
 
 abbrev pub board_done : Performed → FollowUp → SessionState → Replied
 board_done (Ok (b, board)) f s = succeeding (body.Board b) f (with_board board s)
@@ -44,11 +53,32 @@ board_done (Err fault) f s = refusing (board_refusal fault) s
 abbrev pub performing : DapCommand → FollowUp → SessionState → Replied
 performing c f s = board_done (command_result c s.board) f s
 
+-- ---- a run that goes on
+
+-- the program is over then
+abbrev pub finish_done : Performed → ℕ → SessionState → Replied
+finish_done (Ok (b, board)) code s =
+    succeeding (body.Board b) (follow.Ended code) (program_over (with_board (after Interrupt board) s))
+finish_done (Err fault) code s = refusing (board_refusal fault) s
+
+-- so is one whose run is held at its end
+abbrev pub resuming_from : Option End → DapCommand → SessionState → Replied
+resuming_from None c s = performing c follow.Continued s
+resuming_from (Some how) c s = finish_done (command_result c s.board) (exit_code how) s
+
+abbrev pub resuming : DapCommand → SessionState → Replied
+resuming c s = resuming_from (end_of s.settings.program) c s
+
 -- ---- the end of a program
+
+-- what ended the run that is held at its end
+abbrev pub explaining : Option UndefinedOpcode → SessionState → Replied
+explaining None s = refusing (codes "the program is stopped at no exception") s
+explaining (Some undefined) s = succeeding (body.Exception undefined) follow.Nothing s
 
 -- the events behind the response to a request that ends it
 abbrev pub end_follow : SessionState → FollowUp
-end_follow s = if is_live s.settings.program then follow.Ended else follow.Nothing
+end_follow s = if is_live s.settings.program then follow.Ended 1 else follow.Nothing
 
 abbrev pub and_ended : Replied → Replied
 and_ended r = record r { state = program_over r.state }
@@ -62,13 +92,14 @@ terminating s = accepting (end_follow s) (program_over (with_board (after Interr
 
 -- ---- the session
 
-abbrev pub set_initialized : SessionState → SessionState
-set_initialized s = record s { settings = record s.settings { is_initialized = true } }
+abbrev pub set_initialized : SupportedEvents → SessionState → SessionState
+set_initialized supported s =
+    record s { settings = record s.settings { is_initialized = true; supported = supported } }
 
-abbrev pub initializing : SessionState → Replied
-initializing s =
+abbrev pub initializing : SupportedEvents → SessionState → Replied
+initializing supported s =
     if s.settings.is_initialized then refusing (codes "initialized already") s
-    else succeeding body.Capabilities follow.Nothing (set_initialized s)
+    else succeeding body.Capabilities follow.Nothing (set_initialized supported s)
 
 abbrev pub set_configured : SessionState → SessionState
 set_configured s = record s { settings = record s.settings { is_configured = true } }
@@ -99,18 +130,22 @@ sources program = option_to_list (option_map path_of program)
 -- ---- the commands
 
 abbrev pub commanding : DapCommand → SessionState → Replied
-commanding command.Initialize s = initializing s
+commanding command.Initialize s = initializing no_events s
 commanding command.Attach s = refusing (codes "attach is not supported: launch a program") s
 commanding command.Disconnect s = disconnecting s
 commanding command.ConfigurationDone s = configuring s
 commanding (command.SetBreakpoints path lines) s = setting_lines path lines s
 commanding command.BoardReset s = resetting s
-commanding other s = performing other (follow_of other) s
+commanding command.Continue s = resuming command.Continue s
+commanding (command.Step kind granularity) s = resuming (command.Step kind granularity) s
+commanding other s = performing other (follow_of other s) s
 
 abbrev pub editing : EditorCommand → SessionState → Replied
+editing (editor.Initialize supported) s = initializing supported s
 editing editor.Terminate s = terminating s
 editing (editor.SetFunctionBreakpoints names) s = setting_functions names s
 editing editor.SetExceptionBreakpoints s = succeeding (body.Breakpoints []) follow.Nothing s
+editing editor.ExceptionInfo s = explaining (exception_of s.settings.program) s
 editing (editor.Evaluate expression context) s = evaluating expression context s
 editing (editor.ReadMemory address offset count) s = reading address offset count s
 editing (editor.Disassemble address offset instruction_offset count) s =
@@ -124,33 +159,6 @@ replying (asked.Editor c) s = editing c s
 replying (asked.Faulty f) s = refusing (request_refusal f) s
 
 -- ---- objections
-
--- a request that may come before `initialize`
-abbrev pub opens : RequestContent → Bool
-opens (asked.Board command.Initialize) = true
-opens (asked.Board command.Disconnect) = true
-opens (asked.Faulty f) = true
-opens other = false
-
--- bounds that each request keeps that was read from JSON
-abbrev pub is_few : ℕ → Bool
-is_few count = nat_le 1 count && nat_le count 1024
-
-abbrev pub is_near : SignedOffset → Bool
-is_near (Forward n) = nat_le n 65535
-is_near (Back n) = nat_le n 65536
-
-abbrev pub is_command_bounded : DapCommand → Bool
-is_command_bounded (command.SetBreakpoints path lines) = nat_le (length lines) 256
-is_command_bounded (command.Disassemble address offset instruction_offset count) = is_few count
-is_command_bounded other = true
-
-abbrev pub is_bounded : RequestContent → Bool
-is_bounded (asked.Board c) = is_command_bounded c
-is_bounded (asked.Editor (editor.SetFunctionBreakpoints names)) = nat_le (length names) 256
-is_bounded (asked.Editor (editor.Disassemble address offset instruction_offset count)) =
-    is_near instruction_offset && is_few count
-is_bounded other = true
 
 abbrev pub objection : RequestContent → SessionState → Option Text
 objection a s =

@@ -1,5 +1,6 @@
 -- A slice of the run, and the messages of a whole session.
-use Rattle.std.specs.Prelude.{ℕ, List, [], ◌∷◌, ◌++◌, true, Option, if◌then◌else◌}
+use Rattle.std.specs.Prelude.{ℕ, List, [], ◌∷◌, ◌++◌, true, Option, option_map}
+use Rattle.std.specs.Prelude.{if◌then◌else◌}
 use Rattle.lab_core.specs.declared.answer.SliceOutcome.{SliceOutcome}
 use Rattle.lab_core.specs.declared.answer.SliceOutcome.TheVariants as outcome
 use Rattle.lab_core.specs.Slices.{traffic_of, after_steps, left_by}
@@ -8,10 +9,12 @@ use Rattle.dap_editor.specs.declared.request.EditorRequest.{EditorRequest}
 use Rattle.dap_program.specs.declared.messages.RequestId.{RequestId}
 use Rattle.dap_program.specs.Messages.{as_messages, turn_messages}
 use Rattle.lab_core.specs.SliceEnds.{slice_end}
+use Rattle.dap_program.specs.Ends.{held_at_end}
 use Rattle.dap_program.specs.Slices.{slice_events}
+use Rattle.dap_launch.specs.Lives.{policy_of, ended_program}
 use Rattle.dap_launch.specs.declared.file.FileText.{FileText}
 use Rattle.dap_session.specs.declared.settings.SessionSettings.{SessionSettings}
-use Rattle.dap_session.specs.States.{SessionState, over, wants_slice}
+use Rattle.dap_session.specs.States.{SessionState, wants_slice}
 use Rattle.dap_session.specs.Turns.{Turn}
 use Rattle.dap_session.specs.Requests.{turn}
 
@@ -22,21 +25,23 @@ pub record Told : Type 0 where
   pub messages : List Message
   pub state : SessionState
 
--- a run that waits isn't tried again before the next request, and the end of a run ends the program
+-- a run that waits isn't tried again before the next request, and the program notes its run's end
 abbrev pub settings_after : SliceOutcome → SessionSettings → SessionSettings
 settings_after outcome.More t = t
 settings_after outcome.Waiting t = record t { waits = true }
 settings_after (outcome.Stop reason) t = t
-settings_after (outcome.End how) t = over t
+settings_after (outcome.End how) t = record t { program = option_map (ended_program how) t.program }
 
 abbrev pub slicing : ℕ × SliceOutcome → SessionState → Told
-slicing (k, ending) s = record {
-  messages = as_messages (slice_events (traffic_of k s.board) ending);
-  state = record {
-    board = left_by ending (after_steps k s.board);
-    settings = settings_after ending s.settings;
-  };
-}
+slicing (k, ending) s =
+    let policy = policy_of s.settings.program in
+    record {
+      messages = as_messages (slice_events policy (traffic_of k s.board) ending);
+      state = record {
+        board = held_at_end policy ending (left_by ending (after_steps k s.board));
+        settings = settings_after ending s.settings;
+      };
+    }
 
 -- a slice of the run, if one goes on
 unfoldable pub slice_told : SessionState → Told

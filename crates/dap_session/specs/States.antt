@@ -1,17 +1,22 @@
 -- A debugger's session: a board, and what the editor asked for so far.
-use Rattle.std.specs.Prelude.{Bool, true, false, not, ◌&&◌, Option, Some, None, option_map}
+use Rattle.std.specs.Prelude.{Bool, true, false, not, ◌&&◌, Option, None, option_map}
 use Rattle.lab_core.specs.declared.run_state.RunState.{RunState}
 use Rattle.lab_core.specs.declared.run_state.RunState.TheVariants.{NoRun, Running, Stopped}
 use Rattle.lab_core.specs.Board.{Board, opening}
+use Rattle.dap_editor.specs.declared.request.SupportedEvents.{SupportedEvents}
 use Rattle.dap_points.specs.Points.{WantedBreakpointsState, no_points}
-use Rattle.dap_launch.specs.declared.program.Phase.{Phase}
 use Rattle.dap_launch.specs.declared.program.Phase.TheVariants as phase
 use Rattle.dap_launch.specs.declared.program.Program.{Program}
+use Rattle.dap_launch.specs.Lives.{in_phase}
 use Rattle.dap_session.specs.declared.settings.SessionSettings.{SessionSettings}
 
 pub record SessionState : Type 0 where
   pub board : Board
   pub settings : SessionSettings
+
+-- an editor that understands no event beside those that each must
+abbrev pub no_events : SupportedEvents
+no_events = record { invalidated = false; memory = false }
 
 -- before the first request
 abbrev pub session_before_requests : SessionState
@@ -20,6 +25,7 @@ session_before_requests = record {
   settings = record {
     is_initialized = false;
     is_configured = false;
+    supported = no_events;
     program = None;
     points = no_points;
     waits = false;
@@ -40,19 +46,6 @@ abbrev pub with_waits : Bool → SessionState → SessionState
 with_waits waits s = record s { settings = record s.settings { waits = waits } }
 
 -- ---- the program
-
-abbrev pub in_phase : Phase → Program → Program
-in_phase to p = record p { phase = to }
-
-abbrev pub is_over : Phase → Bool
-is_over phase.Loaded = false
-is_over phase.Begun = false
-is_over phase.Over = true
-
--- a program was launched, and isn't over
-abbrev pub is_live : Option Program → Bool
-is_live None = false
-is_live (Some p) = not (is_over p.phase)
 
 -- the program is over, if one was launched
 abbrev pub over : SessionSettings → SessionSettings

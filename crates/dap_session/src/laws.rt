@@ -1,17 +1,22 @@
 //! Laws of the definitions: what holds of every session.
-ghost use Rattle.std.specs.Prelude.{◌≡◌, ◌∷◌, List, Option};
+ghost use Rattle.std.specs.Prelude.{◌≡◌, [], ◌∷◌, List, Option, true};
+ghost use Rattle.lab_core.specs.declared.answer.End.{End};
+ghost use Rattle.lab_core.specs.declared.answer.SliceOutcome.TheVariants as outcome;
+ghost use Rattle.lab_core.specs.SliceEnds.{slice_end, after_slice};
 ghost use Rattle.base_text.specs.Bytes.{Text};
 ghost use Rattle.dap_editor.specs.declared.request.RequestContent.TheVariants as asked;
 ghost use Rattle.dap_editor.specs.declared.request.EditorCommand.TheVariants as editor;
 ghost use Rattle.dap_editor.specs.declared.request.EditorRequest.{EditorRequest};
+ghost use Rattle.dap_editor.specs.declared.request.RequestContent.{RequestContent};
 ghost use Rattle.dap_editor.specs.declared.request.EvaluateContext.TheVariants as context;
 ghost use Rattle.dap_program.specs.Messages.{response, as_messages};
 ghost use Rattle.dap_launch.specs.declared.file.FileText.{FileText};
-ghost use Rattle.dap_session.specs.States.{SessionState, session_before_requests};
+ghost use Rattle.dap_session.specs.States.{SessionState, session_before_requests, wants_slice};
 ghost use Rattle.dap_session.specs.Requests.{turn};
-ghost use Rattle.dap_session.specs.Slices.{Input, caller_of, request_told, play_all};
+ghost use Rattle.dap_session.specs.Slices.{Input, caller_of, request_told, slice_told, play_all};
 ghost use Rattle.dap_session.specs.Laws.{callers_answered, callers_asking, console_of, all_written};
-ghost use Rattle.dap_session.specs.Laws.{shown_by, shown_for, EndsAreTold};
+ghost use Rattle.dap_session.specs.Laws.{shown_by, shown_for, EndsAreTold, EndIsTold, RefusalLeaves};
+ghost use Rattle.dap_session.specs.Laws.{IsWatched, IsTold, IsLook};
 
 /// Each request has one response, in the order in which they came, with its number and its command.
 pub fn requests_are_answered()
@@ -50,4 +55,30 @@ pub fn stops_are_told()
 /// and nowhere else.
 pub fn end_is_told()
     ensures { (inputs : List Input) → EndsAreTold (play_all inputs session_before_requests).state }
+{}
+
+/// What a slice tells last, where the run ends, is how it ended. The machine, the devices and the trace are
+/// as the run left them, and a run that is held there has that exit code once it goes on.
+pub fn end_is_told_as_it_was()
+    ensures { (how : End) (s : SessionState) → wants_slice s ≡ true → s.settings.is_initialized ≡ true
+        → (slice_end s.board).1 ≡ outcome.End how
+        → EndIsTold how s (after_slice s.board) (slice_told s) }
+{}
+
+/// A request that is refused leaves the board, the program and the breakpoints as they were.
+pub fn refusals_leave_all()
+    ensures { (a : RequestContent) (found : Option FileText) (s : SessionState)
+        → RefusalLeaves s (turn a found s).outcome (turn a found s).state }
+{}
+
+/// An editor that understands it is told of each change by hand of a live program.
+pub fn changes_are_told()
+    ensures { (a : RequestContent) (found : Option FileText) (s : SessionState)
+        → IsWatched a s (turn a found s).state → IsTold s (turn a found s).events (turn a found s).state }
+{}
+
+/// A look tells nothing beside its response.
+pub fn looks_tell_nothing()
+    ensures { (a : RequestContent) (found : Option FileText) (s : SessionState)
+        → IsLook a → (turn a found s).events ≡ [] }
 {}

@@ -1,10 +1,11 @@
 //! The session.
 ghost use Rattle.std.specs.Prelude.{◌≡◌, true, IfOk, option_map};
+ghost use Rattle.dap_program.specs.Bounds.{is_bounded};
 ghost use Rattle.dap_session.specs.States as states;
 ghost use Rattle.dap_session.specs.States.{SessionState, session_before_requests};
 ghost use Rattle.dap_session.specs.Turns.{turn_of, refusing};
 ghost use Rattle.dap_session.specs.Requests as requests;
-ghost use Rattle.dap_session.specs.Requests.{turn, asking, asking_unless, objection, is_bounded, replying};
+ghost use Rattle.dap_session.specs.Requests.{turn, asking, asking_unless, objection, replying};
 ghost use Rattle.dap_session.specs.Slices.{told_in, request_told};
 ghost use Rattle.dap_session.specs.Represents.{RepresentsSession, RepliesAs, TellsAs, TellsFor};
 
@@ -16,7 +17,7 @@ mod requests;
 mod slices;
 
 use crate::reply::{Reply, refuse};
-use crate::settings::SessionSettings;
+use crate::settings::{NO_EVENTS, SessionSettings};
 use base_text::sequence::Sequence;
 use dap_editor::message::Message;
 use dap_editor::request::{EditorCommand, EditorRequest, RequestContent};
@@ -67,6 +68,7 @@ impl Session {
             settings: SessionSettings {
                 is_initialized: false,
                 is_configured: false,
+                supported: NO_EVENTS,
                 program: None,
                 points,
                 waits: false,
@@ -75,7 +77,7 @@ impl Session {
         })
     }
 
-    /// RepliesAs a request: returns its response and the events behind it. `file` is what was found at the
+    /// Answers a request: returns its response and the events behind it. `file` is what was found at the
     /// path that the request needs (`wanted_file`). If memory runs out the session stays as it was; but of
     /// the bytes of a `writeMemory` some may be written then, from the first on.
     pub fn take(
@@ -98,7 +100,7 @@ impl Session {
         result
     }
 
-    // RepliesAs a request, after which a run that waits is tried again.
+    // Answers a request, after which a run that waits is tried again.
     #[tactic(auto, unfolding(crate::specs::Requests::turn))]
     fn take_turn(
         &mut self,
@@ -115,7 +117,7 @@ impl Session {
         Ok(messages)
     }
 
-    // RepliesAs a request, or refuses it if there is an objection.
+    // Answers a request, or refuses it if there is an objection.
     #[tactic(auto, using(crate::proofs::SessionLemmas::tells_for))]
     fn answer_unless(
         &mut self,
@@ -156,7 +158,7 @@ impl Session {
         Ok(reply)
     }
 
-    // RepliesAs a request to which there is no objection.
+    // Answers a request to which there is no objection.
     #[tactic(auto, using(crate::proofs::SessionLemmas::tells_for))]
     fn answer(
         &mut self,

@@ -1,12 +1,20 @@
 //! What an editor asked for so far.
 
+use dap_editor::request::SupportedEvents;
 use dap_launch::program::Program;
 use dap_points::points::WantedBreakpoints;
+
+/// Of an editor that understands no event beside those that each must.
+pub const NO_EVENTS: SupportedEvents = SupportedEvents {
+    invalidated: false,
+    memory: false,
+};
 
 /// What an editor asked for so far, and whether its run waits.
 pub struct SessionSettings {
     pub is_initialized: bool,
     pub is_configured: bool,
+    pub supported: SupportedEvents,
     pub program: Option<Program>,
     pub points: WantedBreakpoints,
     /// The last slice ended where the run waits for a button, and no request has come since.
@@ -21,6 +29,7 @@ impl Drop for SessionSettings {
         let Self {
             is_initialized: _,
             is_configured: _,
+            supported: _,
             program: _,
             points: _,
             waits: _,

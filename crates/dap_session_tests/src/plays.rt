@@ -9,10 +9,10 @@ continue
   0 "continue" false "not initialized"
 initialize
   1 "initialize" true {"supportsConfigurationDoneRequest":true,"supportsDisassembleRequest":true,
-    "supportsEvaluateForHovers":true,"supportsFunctionBreakpoints":true,
-    "supportsLoadedSourcesRequest":true,"supportsReadMemoryRequest":true,"supportsRestartRequest":true,
-    "supportsSetVariable":true,"supportsSteppingGranularity":true,"supportsTerminateRequest":true,
-    "supportsWriteMemoryRequest":true}
+    "supportsEvaluateForHovers":true,"supportsExceptionInfoRequest":true,
+    "supportsFunctionBreakpoints":true,"supportsLoadedSourcesRequest":true,
+    "supportsReadMemoryRequest":true,"supportsRestartRequest":true,"supportsSetVariable":true,
+    "supportsSteppingGranularity":true,"supportsTerminateRequest":true,"supportsWriteMemoryRequest":true}
 initialize
   2 "initialize" false "initialized already"
 setBreakpoints {"source":{"path":"count.asm"},"breakpoints":[{"line":6},{"line":99}]}
@@ -48,10 +48,10 @@ loadedSources
 const STEPS: &str = r#"
 initialize
   0 "initialize" true {"supportsConfigurationDoneRequest":true,"supportsDisassembleRequest":true,
-    "supportsEvaluateForHovers":true,"supportsFunctionBreakpoints":true,
-    "supportsLoadedSourcesRequest":true,"supportsReadMemoryRequest":true,"supportsRestartRequest":true,
-    "supportsSetVariable":true,"supportsSteppingGranularity":true,"supportsTerminateRequest":true,
-    "supportsWriteMemoryRequest":true}
+    "supportsEvaluateForHovers":true,"supportsExceptionInfoRequest":true,
+    "supportsFunctionBreakpoints":true,"supportsLoadedSourcesRequest":true,
+    "supportsReadMemoryRequest":true,"supportsRestartRequest":true,"supportsSetVariable":true,
+    "supportsSteppingGranularity":true,"supportsTerminateRequest":true,"supportsWriteMemoryRequest":true}
 configurationDone
   1 "configurationDone" true {}
 launch {"program":"count.asm","stopOnEntry":true} < calls
@@ -102,10 +102,10 @@ continue
 const ENDS: &str = r#"
 initialize
   0 "initialize" true {"supportsConfigurationDoneRequest":true,"supportsDisassembleRequest":true,
-    "supportsEvaluateForHovers":true,"supportsFunctionBreakpoints":true,
-    "supportsLoadedSourcesRequest":true,"supportsReadMemoryRequest":true,"supportsRestartRequest":true,
-    "supportsSetVariable":true,"supportsSteppingGranularity":true,"supportsTerminateRequest":true,
-    "supportsWriteMemoryRequest":true}
+    "supportsEvaluateForHovers":true,"supportsExceptionInfoRequest":true,
+    "supportsFunctionBreakpoints":true,"supportsLoadedSourcesRequest":true,
+    "supportsReadMemoryRequest":true,"supportsRestartRequest":true,"supportsSetVariable":true,
+    "supportsSteppingGranularity":true,"supportsTerminateRequest":true,"supportsWriteMemoryRequest":true}
 launch {"program":"count.asm"} < slip
   1 "launch" false "2:12 Undefined"
   "output" {"category":"stderr","column":12,"line":2,"output":"2:12 Undefined\n",
@@ -148,6 +148,173 @@ disconnect
   15 "disconnect" true {}
 "#;
 
+/// Runs that are held at their ends, and how they end then.
+const HELD: &str = r#"
+initialize
+  0 "initialize" true {"supportsConfigurationDoneRequest":true,"supportsDisassembleRequest":true,
+    "supportsEvaluateForHovers":true,"supportsExceptionInfoRequest":true,
+    "supportsFunctionBreakpoints":true,"supportsLoadedSourcesRequest":true,
+    "supportsReadMemoryRequest":true,"supportsRestartRequest":true,"supportsSetVariable":true,
+    "supportsSteppingGranularity":true,"supportsTerminateRequest":true,"supportsWriteMemoryRequest":true}
+launch {"program":"count.asm","stopAtEnd":1} < undefined
+  1 "launch" false "bad arguments"
+exceptionInfo {"threadId":1}
+  2 "exceptionInfo" false "the program is stopped at no exception"
+launch {"program":"count.asm","stopAtEnd":true,"stopOnEntry":true} < undefined
+  3 "launch" true {}
+  "initialized"
+configurationDone
+  4 "configurationDone" true {}
+  "stopped" {"allThreadsStopped":true,"reason":"entry","threadId":1}
+exceptionInfo {"threadId":1}
+  5 "exceptionInfo" false "the program is stopped at no exception"
+continue
+  6 "continue" true {"allThreadsContinued":true}
+  "continued" {"allThreadsContinued":true,"threadId":1}
+slice
+  "output" {"category":"stdout","output":"B"}
+  "output" {"category":"stderr","output":"UndefinedOpcode: 08 at 0104\n"}
+  "stopped" {"allThreadsStopped":true,"reason":"exception","text":"UndefinedOpcode: 08 at 0104","threadId":1}
+exceptionInfo {"threadId":1}
+  8 "exceptionInfo" true {"breakMode":"unhandled","description":"UndefinedOpcode: 08 at 0104",
+    "exceptionId":"UndefinedOpcode"}
+slice
+evaluate {"expression":"PC"}
+  10 "evaluate" true {"result":"00104H","variablesReference":0}
+stackTrace {"threadId":1}
+  11 "stackTrace" true {"stackFrames":[{"column":1,"id":1,"instructionPointerReference":"0x0104","line":4,
+    "name":"main","source":{"path":"count.asm"}}],"totalFrames":1}
+pause
+  12 "pause" false "no program runs"
+configurationDone
+  13 "configurationDone" true {}
+continue
+  14 "continue" true {"allThreadsContinued":true}
+  "exited" {"exitCode":1}
+  "terminated"
+exceptionInfo {"threadId":1}
+  15 "exceptionInfo" false "the program is stopped at no exception"
+restart < letters
+  16 "restart" true {}
+  "stopped" {"allThreadsStopped":true,"reason":"entry","threadId":1}
+continue
+  17 "continue" true {"allThreadsContinued":true}
+  "continued" {"allThreadsContinued":true,"threadId":1}
+slice
+  "output" {"category":"stdout","output":"AB"}
+  "stopped" {"allThreadsStopped":true,"description":"halted","reason":"step","threadId":1}
+exceptionInfo {"threadId":1}
+  19 "exceptionInfo" false "the program is stopped at no exception"
+evaluate {"expression":"A"}
+  20 "evaluate" true {"result":"042H","variablesReference":0}
+next {"threadId":1}
+  21 "next" true {}
+  "exited" {"exitCode":0}
+  "terminated"
+next {"threadId":1}
+  22 "next" false "no program is stopped"
+"#;
+
+/// A run at its end is terminated, and without debugging none is held there.
+const UNHELD: &str = r#"
+initialize
+  0 "initialize" true {"supportsConfigurationDoneRequest":true,"supportsDisassembleRequest":true,
+    "supportsEvaluateForHovers":true,"supportsExceptionInfoRequest":true,
+    "supportsFunctionBreakpoints":true,"supportsLoadedSourcesRequest":true,
+    "supportsReadMemoryRequest":true,"supportsRestartRequest":true,"supportsSetVariable":true,
+    "supportsSteppingGranularity":true,"supportsTerminateRequest":true,"supportsWriteMemoryRequest":true}
+launch {"program":"count.asm","stopAtEnd":true,"noDebug":true} < undefined
+  1 "launch" true {}
+  "initialized"
+configurationDone
+  2 "configurationDone" true {}
+slice
+  "output" {"category":"stdout","output":"B"}
+  "output" {"category":"stderr","output":"UndefinedOpcode: 08 at 0104\n"}
+  "exited" {"exitCode":1}
+  "terminated"
+continue
+  4 "continue" false "no program is stopped"
+"#;
+
+/// Changes by hand, for an editor that understands what is told of them.
+const CHANGES: &str = r#"
+initialize {"supportsInvalidatedEvent":true,"supportsMemoryEvent":true}
+  0 "initialize" true {"supportsConfigurationDoneRequest":true,"supportsDisassembleRequest":true,
+    "supportsEvaluateForHovers":true,"supportsExceptionInfoRequest":true,
+    "supportsFunctionBreakpoints":true,"supportsLoadedSourcesRequest":true,
+    "supportsReadMemoryRequest":true,"supportsRestartRequest":true,"supportsSetVariable":true,
+    "supportsSteppingGranularity":true,"supportsTerminateRequest":true,"supportsWriteMemoryRequest":true}
+evaluate {"expression":"switches 4","context":"repl"}
+  1 "evaluate" true {"result":"ok","variablesReference":0}
+launch {"program":"count.asm","stopOnEntry":true} < loop
+  2 "launch" true {}
+  "initialized"
+evaluate {"expression":"switches 5","context":"repl"}
+  3 "evaluate" true {"result":"ok","variablesReference":0}
+  "invalidated" {"areas":["stacks","variables"]}
+  "memory" {"count":65536,"memoryReference":"0x0000","offset":0}
+configurationDone
+  4 "configurationDone" true {}
+  "stopped" {"allThreadsStopped":true,"reason":"entry","threadId":1}
+setVariable {"variablesReference":1,"name":"PC","value":"200H"}
+  5 "setVariable" true {"value":"00200H"}
+  "invalidated" {"areas":["stacks","variables"]}
+  "memory" {"count":65536,"memoryReference":"0x0000","offset":0}
+setVariable {"variablesReference":1,"name":"PC","value":"-"}
+  6 "setVariable" false "the value is no number that fits there"
+evaluate {"expression":"PC","context":"hover"}
+  7 "evaluate" true {"result":"00200H","variablesReference":0}
+writeMemory {"memoryReference":"0x0300","data":"AQL/"}
+  8 "writeMemory" true {"bytesWritten":3}
+  "invalidated" {"areas":["stacks","variables"]}
+  "memory" {"count":65536,"memoryReference":"0x0000","offset":0}
+writeMemory {"memoryReference":"0xffff","offset":1,"data":"AQL/"}
+  9 "writeMemory" false "there is no such address"
+readMemory {"memoryReference":"0x0300","count":3}
+  10 "readMemory" true {"address":"0x0300","data":"AQL/"}
+continue
+  11 "continue" true {"allThreadsContinued":true}
+  "continued" {"allThreadsContinued":true,"threadId":1}
+setVariable {"variablesReference":1,"name":"PC","value":"200H"}
+  12 "setVariable" false "no program is stopped"
+evaluate {"expression":"type x","context":"repl"}
+  13 "evaluate" true {"result":"ok","variablesReference":0}
+  "invalidated" {"areas":["stacks","variables"]}
+  "memory" {"count":65536,"memoryReference":"0x0000","offset":0}
+terminate
+  14 "terminate" true {}
+  "exited" {"exitCode":1}
+  "terminated"
+evaluate {"expression":"switches 6","context":"repl"}
+  15 "evaluate" true {"result":"ok","variablesReference":0}
+"#;
+
+/// Changes by hand, for an editor that understands only that memory has changed.
+const MEMORY: &str = r#"
+initialize {"supportsMemoryEvent":"yes"}
+  0 "initialize" false "bad arguments"
+continue
+  1 "continue" false "not initialized"
+initialize {"supportsInvalidatedEvent":false,"supportsMemoryEvent":true}
+  2 "initialize" true {"supportsConfigurationDoneRequest":true,"supportsDisassembleRequest":true,
+    "supportsEvaluateForHovers":true,"supportsExceptionInfoRequest":true,
+    "supportsFunctionBreakpoints":true,"supportsLoadedSourcesRequest":true,
+    "supportsReadMemoryRequest":true,"supportsRestartRequest":true,"supportsSetVariable":true,
+    "supportsSteppingGranularity":true,"supportsTerminateRequest":true,"supportsWriteMemoryRequest":true}
+initialize {"supportsInvalidatedEvent":true}
+  3 "initialize" false "initialized already"
+launch {"program":"count.asm","stopOnEntry":true} < loop
+  4 "launch" true {}
+  "initialized"
+configurationDone
+  5 "configurationDone" true {}
+  "stopped" {"allThreadsStopped":true,"reason":"entry","threadId":1}
+writeMemory {"memoryReference":"0x0300","data":"AQL/"}
+  6 "writeMemory" true {"bytesWritten":3}
+  "memory" {"count":65536,"memoryReference":"0x0000","offset":0}
+"#;
+
 #[test]
 fn a_run_is_told(rt: HostRuntime) -> Result<(), Fail> {
     assert_eq!(rt; first_other(rt.alloc(), RUN)?, None);
@@ -163,5 +330,29 @@ fn steps_are_told(rt: HostRuntime) -> Result<(), Fail> {
 #[test]
 fn ends_are_told(rt: HostRuntime) -> Result<(), Fail> {
     assert_eq!(rt; first_other(rt.alloc(), ENDS)?, None);
+    Ok(())
+}
+
+#[test]
+fn ends_are_held(rt: HostRuntime) -> Result<(), Fail> {
+    assert_eq!(rt; first_other(rt.alloc(), HELD)?, None);
+    Ok(())
+}
+
+#[test]
+fn no_run_without_debugging_is_held(rt: HostRuntime) -> Result<(), Fail> {
+    assert_eq!(rt; first_other(rt.alloc(), UNHELD)?, None);
+    Ok(())
+}
+
+#[test]
+fn changes_by_hand_are_told(rt: HostRuntime) -> Result<(), Fail> {
+    assert_eq!(rt; first_other(rt.alloc(), CHANGES)?, None);
+    Ok(())
+}
+
+#[test]
+fn only_what_is_understood_is_told(rt: HostRuntime) -> Result<(), Fail> {
+    assert_eq!(rt; first_other(rt.alloc(), MEMORY)?, None);
     Ok(())
 }

@@ -46,6 +46,15 @@ PRINT: MVI A,48H
        END MAIN
 ";
 
+/// Writes `B`, and comes to an opcode that Intel leaves undefined.
+const UNDEFINED: &str = "\
+       ORG 100H
+MAIN:  MVI A,42H
+       OUT 1
+       DB 8
+       END MAIN
+";
+
 const SLIP: &str = "\
        ORG 100H
 MAIN:  JMP NOWHERE
@@ -57,6 +66,7 @@ fn program(name: &str) -> Option<&'static str> {
         "letters" => Some(LETTERS),
         "loop" => Some(LOOP),
         "calls" => Some(CALLS),
+        "undefined" => Some(UNDEFINED),
         "slip" => Some(SLIP),
         "end" => Some("  END\n"),
         _ => None,

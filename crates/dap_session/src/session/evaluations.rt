@@ -85,10 +85,11 @@ impl Session {
             self.old result self.new }
     {
         let done = Text::copy_of(alloc, "ok")?;
+        let follow = self.change_follow();
         match perform(alloc, &mut self.lab, command) {
             Ok(body) => {
                 drop(body);
-                Ok(succeed(EditorBody::Evaluation(done), FollowUp::Nothing))
+                Ok(succeed(EditorBody::Evaluation(done), follow))
             }
             Err(fault) => refuse_for(alloc, fault),
         }

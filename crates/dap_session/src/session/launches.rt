@@ -41,7 +41,7 @@ impl Session {
                     program.phase = Phase::Begun;
                     accept(begun_follow(LoadReason::Launch, &program.launch))
                 }
-                Phase::Begun | Phase::Over => accept(FollowUp::Nothing),
+                Phase::Begun | Phase::Held(_) | Phase::Over => accept(FollowUp::Nothing),
             },
         }
     }

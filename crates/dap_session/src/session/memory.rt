@@ -1,9 +1,9 @@
 //! Memory and code.
 ghost use Rattle.std.specs.Prelude.{◌≡◌, ◌+◌, ◌-◌, ◌≤◌, length, take, true, Some, IfOk, OnOk, OnErr};
 ghost use Rattle.dap_program.specs.Memory.{with_bytes_at};
-ghost use Rattle.dap_session.specs.Memory.{address_at, wrapped_at, first_line, memory_at, is_stopped};
+ghost use Rattle.dap_program.specs.Bounds as bounds;
+ghost use Rattle.dap_session.specs.Memory.{first_line, memory_at, is_stopped};
 ghost use Rattle.dap_session.specs.Memory.{writing_from, writing};
-ghost use Rattle.dap_session.specs.Requests as requests;
 ghost use Rattle.dap_session.specs.Requests.{reading, disassembling};
 ghost use Rattle.dap_session.specs.States.{SessionState, with_board};
 ghost use Rattle.dap_session.specs.Turns.{turn_of};
@@ -19,58 +19,12 @@ use dap_editor::request::{EditorCommand, RequestContent, SignedOffset};
 use dap_inspect::before::before_instructions;
 use dap_inspect::listing::code_lines;
 use dap_inspect::memory::read_memory;
-use dap_program::memory::write_bytes;
+use dap_program::memory::{address_at, wrapped_at, writable, write_bytes};
 use dap_program::messages::{FollowUp, Messages, RequestId};
 use dap_program::refusals::board_refusal;
 use lab_core::fault::EventFault;
 use lab_core::run_state::RunState;
 use std::alloc::{AllocError, Global};
-
-/// The number of addresses.
-const ADDRESSES: usize = 65_536;
-
-// The address at this distance from another, if there is one.
-fn address_at(address: u16, offset: SignedOffset) -> Option<u16>
-    ensures { result ≡ address_at address offset }
-{
-    match offset {
-        SignedOffset::Forward(n) => {
-            let far = u64::from(address) + u64::from(n);
-            if far <= 65535 { Some(far as u16) } else { None }
-        }
-        SignedOffset::Back(n) => {
-            if n <= u32::from(address) {
-                Some((u32::from(address) - n) as u16)
-            } else {
-                None
-            }
-        }
-    }
-}
-
-// The address at this distance from another. Addresses wrap.
-fn wrapped_at(address: u16, offset: SignedOffset) -> u16
-    ensures { result ≡ wrapped_at address offset }
-{
-    let far = match offset {
-        SignedOffset::Forward(n) => u64::from(address) + u64::from(n),
-        SignedOffset::Back(n) => u64::from(address) + (65_536 - u64::from(n % 65_536)),
-    };
-    (far % 65_536) as u16
-}
-
-// The first of these bytes: as many as there are addresses from this one on.
-fn writable(start: u16, bytes: &[u8]) -> &[u8]
-    ensures all { result.now ≡ take (65536 - start) bytes.now }
-    ensures fits { start + length result.now ≤ 65536 }
-{
-    let room = ADDRESSES - usize::from(start);
-    if bytes.len() <= room {
-        return bytes;
-    }
-    let (all, _) = bytes.split_at(room);
-    all
-}
 
 impl Session {
     // At most `count` bytes from an address on; without a start all are unreadable.
@@ -117,7 +71,7 @@ impl Session {
 
     // The address of the line of code that is so many instructions from an address.
     fn first_line(&self, address: u16, offset: SignedOffset) -> u16
-        requires { requests.is_near offset ≡ true }
+        requires { bounds.is_near offset ≡ true }
         ensures { (s : SessionState) → RepresentsSession self.now s
             → result ≡ first_line address offset s.board }
     {
@@ -135,7 +89,7 @@ impl Session {
         instruction_offset: SignedOffset,
         count: u16,
     ) -> Result<Reply, AllocError>
-        requires { requests.is_near instruction_offset ≡ true }
+        requires { bounds.is_near instruction_offset ≡ true }
         ensures { RepliesAs (disassembling address offset instruction_offset count) self.old result self.new }
     {
         let start = self.first_line(wrapped_at(address, offset), instruction_offset);
@@ -179,10 +133,11 @@ impl Session {
             → OnErr result (WritesFirst start (take (65536 - start) bytes.now) s self.new) }
     {
         let messages = Messages::new(alloc)?;
+        let follow = self.change_follow();
         let all = writable(start, bytes.as_slice());
         self.write_from(alloc, start, all)?;
         let written = EditorOutcome::Success(EditorBody::Written(all.len() as u32));
-        Ok(messages.turn(caller, written, FollowUp::Nothing))
+        Ok(messages.turn(caller, written, follow))
     }
 
     // Writes bytes of a stopped run's memory, as many as there are addresses for.

@@ -1,113 +1,35 @@
 //! Requests, but for those that have a file of their own.
-ghost use Rattle.std.specs.Prelude.{◌≡◌, ◌≤◌, length, IsTrue, IfOk, OnErr, option_map, true, None, ◌≢◌};
+ghost use Rattle.std.specs.Prelude.{◌≡◌, IfOk, option_map, true, None, ◌≢◌};
 ghost use Rattle.dap_program.specs.Refusals.{board_refusal};
-ghost use Rattle.dap_board.specs.Commands.{IsPerformable};
-ghost use Rattle.dap_session.specs.States as states;
-ghost use Rattle.dap_session.specs.States.{SessionState, is_live};
-ghost use Rattle.dap_session.specs.Requests as requests;
-ghost use Rattle.dap_session.specs.Requests.{objection, opens, is_bounded, follow_of, performing, resetting};
+ghost use Rattle.dap_board.specs.Commands.{IsPerformable, command_result};
+ghost use Rattle.dap_program.specs.Boards.{after};
+ghost use Rattle.dap_program.specs.Bounds.{is_command_bounded, is_bounded};
+ghost use Rattle.dap_session.specs.States.{SessionState, with_board, program_over};
+ghost use Rattle.dap_session.specs.Turns.{change_follow};
+ghost use Rattle.dap_session.specs.Requests.{objection, follow_of, performing, resuming, finish_done};
+ghost use Rattle.dap_session.specs.Requests.{resetting};
 ghost use Rattle.dap_session.specs.Requests.{terminating, initializing, configuring, disconnecting};
 ghost use Rattle.dap_session.specs.Requests.{commanding, editing, replying, end_follow};
 ghost use Rattle.dap_session.specs.Represents.{RepresentsSession, RepliesAs, Replies};
 
 use crate::reply::{Reply, accept, refuse, succeed};
 use crate::session::Session;
+use crate::settings::NO_EVENTS;
 use base_text::sequence::Sequence;
 use dap_answers::answer::StopReason;
 use dap_board::perform::perform;
 use dap_editor::message::{EditorBody, EditorOutcome, EditorStop};
-use dap_editor::request::{EditorCommand, RequestContent, SignedOffset};
-use dap_launch::program::{Phase, Program};
+use dap_editor::request::{EditorCommand, RequestContent, SupportedEvents};
+use dap_launch::life::{end_of, end_program, exception_of, is_live};
+use dap_program::bounds::{is_bounded, opens};
 use dap_program::change::change_surely;
+use dap_program::end::exit_code;
 use dap_program::messages::FollowUp;
 use dap_program::refusals::{board_refusal, request_refusal};
 use dap_talk::command::DapCommand;
 use lab_core::event::Event;
 use lab_core::fault::EventFault;
 use std::alloc::{AllocError, Global};
-
-/// The most lines or labels of a request.
-const MOST_POINTS: usize = 256;
-
-/// The most instructions of a disassembly.
-const MOST_INSTRUCTIONS: u16 = 1024;
-
-/// The most instructions between an address and the disassembly behind it.
-const MOST_FORWARD: u32 = 65_535;
-
-/// The most instructions that a disassembly may begin before an address.
-const MOST_BACK: u32 = 65_536;
-
-// ---- objections
-
-// Whether a request may come before `initialize`.
-fn opens(asked: &RequestContent) -> bool
-    ensures { result ≡ opens asked.now }
-{
-    matches!(
-        asked,
-        RequestContent::Board(DapCommand::Initialize | DapCommand::Disconnect)
-            | RequestContent::Faulty(_)
-    )
-}
-
-fn is_few(count: u16) -> bool
-    ensures { result ≡ requests.is_few count }
-{
-    1 <= count && count <= MOST_INSTRUCTIONS
-}
-
-fn is_near(shift: SignedOffset) -> bool
-    ensures { result ≡ requests.is_near shift }
-{
-    match shift {
-        SignedOffset::Back(n) => n <= MOST_BACK,
-        SignedOffset::Forward(n) => n <= MOST_FORWARD,
-    }
-}
-
-fn is_command_bounded(command: &DapCommand) -> bool
-    ensures bounded { result ≡ requests.is_command_bounded command.now }
-    ensures fits { result ≡ true → IsPerformable command.now }
-{
-    match command {
-        DapCommand::SetBreakpoints { lines, .. } => lines.len() <= MOST_POINTS,
-        DapCommand::Disassemble {
-            instruction_count,
-            ..
-        } => is_few(*instruction_count),
-        _ => true,
-    }
-}
-
-fn is_bounded(asked: &RequestContent) -> bool
-    ensures { result ≡ is_bounded asked.now }
-{
-    match asked {
-        RequestContent::Board(command) => is_command_bounded(command),
-        RequestContent::Editor(EditorCommand::SetFunctionBreakpoints(names)) => names.len()
-            <= MOST_POINTS,
-        RequestContent::Editor(
-            EditorCommand::Disassemble {
-                instruction_offset,
-                instruction_count,
-                ..
-            },
-        ) => is_near(*instruction_offset) && is_few(*instruction_count),
-        _ => true,
-    }
-}
-
-// The event behind the response to a command.
-fn follow_of(command: &DapCommand) -> FollowUp
-    ensures { result ≡ follow_of command.now }
-{
-    match command {
-        DapCommand::Continue | DapCommand::Step { .. } => FollowUp::Continued,
-        DapCommand::Pause => FollowUp::Stopped(EditorStop::Board(StopReason::Pause)),
-        _ => FollowUp::Nothing,
-    }
-}
 
 // The reply to what a board refuses. Running out of memory is an error of its own.
 pub(super) fn refuse_for(alloc: Global, fault: EventFault) -> Result<Reply, AllocError>
@@ -120,23 +42,6 @@ pub(super) fn refuse_for(alloc: Global, fault: EventFault) -> Result<Reply, Allo
     }
     let reply = refuse(alloc, board_refusal(fault))?;
     Ok(reply)
-}
-
-fn is_live(program: &Option<Program>) -> bool
-    ensures { result ≡ is_live program.now }
-{
-    match program {
-        None => false,
-        Some(program) => !matches!(program.phase, Phase::Over),
-    }
-}
-
-pub(super) fn end_program(program: &mut Option<Program>)
-    ensures { program.new ≡ option_map (states.in_phase Phase.Over) program.old }
-{
-    if let Some(program) = program {
-        program.phase = Phase::Over;
-    }
 }
 
 impl Session {
@@ -170,6 +75,32 @@ impl Session {
         }
     }
 
+    // What follows a change by hand.
+    pub(super) fn change_follow(&self) -> FollowUp
+        ensures { (s : SessionState) → RepresentsSession self.now s → result ≡ change_follow s }
+    {
+        if is_live(&self.settings.program) {
+            FollowUp::Changed(self.settings.supported)
+        } else {
+            FollowUp::Nothing
+        }
+    }
+
+    // The event behind the response to a command.
+    fn follow_of(&self, command: &DapCommand) -> FollowUp
+        ensures { (s : SessionState) → RepresentsSession self.now s → result ≡ follow_of command.now s }
+    {
+        match command {
+            DapCommand::Pause => FollowUp::Stopped(EditorStop::Board(StopReason::Pause)),
+            DapCommand::SetVariable { .. }
+            | DapCommand::BoardSwitches { .. }
+            | DapCommand::BoardPress { .. }
+            | DapCommand::BoardType { .. }
+            | DapCommand::BoardAliases { .. } => self.change_follow(),
+            _ => FollowUp::Nothing,
+        }
+    }
+
     // Performs a command of the board. `follow` says which event comes behind the response.
     pub(super) fn perform(
         &mut self,
@@ -186,12 +117,67 @@ impl Session {
         }
     }
 
+    // Lets the run go on. A program whose run is held at its end is over then.
+    fn resume(&mut self, alloc: Global, command: &DapCommand) -> Result<Reply, AllocError>
+        requires { IsPerformable command.now }
+        ensures { RepliesAs (resuming command.now) self.old result self.new }
+    {
+        match end_of(&self.settings.program) {
+            None => self.perform(alloc, command, FollowUp::Continued),
+            Some(end) => self.finish(alloc, command, exit_code(end)),
+        }
+    }
+
+    // Performs a command that lets a run go on, and ends the program.
+    fn finish(&mut self, alloc: Global, command: &DapCommand, code: u8) -> Result<Reply, AllocError>
+        requires { IsPerformable command.now }
+        ensures { RepliesAs (λ s. finish_done (command_result command.now s.board) code s)
+            self.old result self.new }
+    {
+        match perform(alloc, &mut self.lab, command) {
+            Ok(body) => {
+                self.end_run();
+                Ok(succeed(EditorBody::Board(body), FollowUp::Ended(code)))
+            }
+            Err(fault) => refuse_for(alloc, fault),
+        }
+    }
+
+    // Ends the run and the program, if there are some.
+    fn end_run(&mut self)
+        ensures { (s : SessionState) → RepresentsSession self.old s → RepresentsSession self.new
+            (program_over (with_board (after Event.Interrupt s.board) s)) }
+    {
+        change_surely(&mut self.lab, Event::Interrupt);
+        end_program(&mut self.settings.program);
+    }
+
+    // What ended the run that is held at its end.
+    fn explain(&self, alloc: Global) -> Result<Reply, AllocError>
+        ensures { RepliesAs (editing EditorCommand.ExceptionInfo) self.now result self.now }
+    {
+        match exception_of(&self.settings.program) {
+            None => self.refuse_with(alloc, "the program is stopped at no exception"),
+            Some(undefined) => Ok(succeed(EditorBody::Exception(undefined), FollowUp::Nothing)),
+        }
+    }
+
+    // Performs a command of the board that lets no run go on.
+    fn perform_by_hand(&mut self, alloc: Global, command: &DapCommand) -> Result<Reply, AllocError>
+        requires { IsPerformable command.now }
+        ensures { RepliesAs (λ s. performing command.now (follow_of command.now s) s)
+            self.old result self.new }
+    {
+        let follow = self.follow_of(command);
+        self.perform(alloc, command, follow)
+    }
+
     fn command(&mut self, alloc: Global, command: &DapCommand) -> Result<Reply, AllocError>
-        requires { requests.is_command_bounded command.now ≡ true }
+        requires { is_command_bounded command.now ≡ true }
         ensures { RepliesAs (commanding command.now) self.old result self.new }
     {
         match command {
-            DapCommand::Initialize => self.initialize(alloc),
+            DapCommand::Initialize => self.initialize(alloc, NO_EVENTS),
             DapCommand::Attach => self.refuse_with(
                 alloc,
                 "attach is not supported: launch a program",
@@ -200,7 +186,8 @@ impl Session {
             DapCommand::ConfigurationDone => Ok(self.configure()),
             DapCommand::SetBreakpoints { path, lines } => self.set_lines(alloc, path, lines),
             DapCommand::BoardReset => self.reset(alloc),
-            _ => self.perform(alloc, command, follow_of(command)),
+            DapCommand::Continue | DapCommand::Step { .. } => self.resume(alloc, command),
+            _ => self.perform_by_hand(alloc, command),
         }
     }
 
@@ -209,12 +196,14 @@ impl Session {
         ensures { RepliesAs (editing command.now) self.old result self.new }
     {
         match command {
+            EditorCommand::Initialize(supported) => self.initialize(alloc, *supported),
             EditorCommand::Terminate => Ok(self.terminate()),
             EditorCommand::SetFunctionBreakpoints(names) => self.set_functions(alloc, names),
             EditorCommand::SetExceptionBreakpoints => Ok(succeed(
                 EditorBody::Breakpoints(Sequence::new(alloc)),
                 FollowUp::Nothing,
             )),
+            EditorCommand::ExceptionInfo => self.explain(alloc),
             EditorCommand::Evaluate {
                 expression,
                 context,
@@ -244,13 +233,14 @@ impl Session {
         }
     }
 
-    fn initialize(&mut self, alloc: Global) -> Result<Reply, AllocError>
-        ensures { RepliesAs initializing self.old result self.new }
+    fn initialize(&mut self, alloc: Global, supported: SupportedEvents) -> Result<Reply, AllocError>
+        ensures { RepliesAs (initializing supported) self.old result self.new }
     {
         if self.settings.is_initialized {
             return self.refuse_with(alloc, "initialized already");
         }
         self.settings.is_initialized = true;
+        self.settings.supported = supported;
         Ok(succeed(EditorBody::Capabilities, FollowUp::Nothing))
     }
 
@@ -275,7 +265,7 @@ impl Session {
         ensures { (s : SessionState) → RepresentsSession self.now s → result ≡ end_follow s }
     {
         if is_live(&self.settings.program) {
-            FollowUp::Ended
+            FollowUp::Ended(1)
         } else {
             FollowUp::Nothing
         }
@@ -295,8 +285,7 @@ impl Session {
             → Replies (terminating s) result self.new }
     {
         let follow = self.end_follow();
-        change_surely(&mut self.lab, Event::Interrupt);
-        end_program(&mut self.settings.program);
+        self.end_run();
         accept(follow)
     }
 

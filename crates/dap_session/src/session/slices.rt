@@ -4,9 +4,9 @@ ghost use Rattle.dap_session.specs.Slices.{slice_told, settings_after};
 ghost use Rattle.dap_session.specs.Represents.{TellsAs};
 
 use crate::session::Session;
-use crate::session::requests::end_program;
 use base_text::sequence::Sequence;
 use dap_editor::message::Message;
+use dap_launch::life::{note_end, policy_of};
 use dap_program::slice::{Slice, make_slice};
 use lab_core::answer::SliceOutcome;
 use std::alloc::{AllocError, Global};
@@ -20,7 +20,8 @@ impl Session {
         if !self.wants_slice() {
             return Ok(Sequence::new(alloc));
         }
-        let slice = make_slice(alloc, &mut self.lab)?;
+        let policy = policy_of(&self.settings.program);
+        let slice = make_slice(alloc, &mut self.lab, policy)?;
         let Slice { messages, outcome } = slice;
         self.leave(outcome);
         Ok(messages)
@@ -33,7 +34,7 @@ impl Session {
         match outcome {
             SliceOutcome::More | SliceOutcome::Stop(_) => {}
             SliceOutcome::Waiting => self.settings.waits = true,
-            SliceOutcome::End(_) => end_program(&mut self.settings.program),
+            SliceOutcome::End(end) => note_end(&mut self.settings.program, end),
         }
     }
 }

@@ -14,4 +14,5 @@ returns c = λ b represents.
     λ ls names. OnOk c.arm.result (RepresentsBoard c.arm.new.lab
     (board_armed_at program.launch.program ls names b)) in
     subst (λ ls. P ls (take 256 points.functions)) lines
-    (subst (λ names. P c.lines_at.result.now names) c.functions.ensures.labels (c.arm.ensures.ok b represents))
+    (subst (λ names. P c.lines_at.result.now names) c.functions.ensures.labels
+    (c.arm.ensures.ok b represents))

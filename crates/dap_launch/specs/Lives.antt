@@ -1,0 +1,56 @@
+-- How far a program is, and what its run's end makes of it (Debug Adapter Protocol, `terminated`).
+use Rattle.std.specs.Prelude.{Bool, true, false, not, ◌&&◌, Option, Some, None, option_and_then}
+use Rattle.std.specs.Prelude.{if◌then◌else◌}
+use Rattle.lab_core.specs.declared.answer.End.{End}
+use Rattle.dap_editor.specs.declared.message.UndefinedOpcode.{UndefinedOpcode}
+use Rattle.dap_editor.specs.declared.request.Launch.{Launch}
+use Rattle.dap_program.specs.declared.end.EndPolicy.{EndPolicy}
+use Rattle.dap_program.specs.declared.end.EndPolicy.TheVariants.{Exit, Hold}
+use Rattle.dap_program.specs.Ends.{exception_at}
+use Rattle.dap_launch.specs.declared.program.Phase.{Phase}
+use Rattle.dap_launch.specs.declared.program.Phase.TheVariants as phase
+use Rattle.dap_launch.specs.declared.program.Program.{Program}
+
+abbrev pub in_phase : Phase → Program → Program
+in_phase to p = record p { phase = to }
+
+abbrev pub is_over : Phase → Bool
+is_over phase.Loaded = false
+is_over phase.Begun = false
+is_over (phase.Held how) = false
+is_over phase.Over = true
+
+-- a program was launched, and isn't over
+abbrev pub is_live : Option Program → Bool
+is_live None = false
+is_live (Some p) = not (is_over p.phase)
+
+-- ---- the end of its run
+
+-- a run is held at its end only for a debugger
+abbrev pub launch_policy : Launch → EndPolicy
+launch_policy l = if l.stops_at_end && l.is_debugged then Hold else Exit
+
+abbrev pub policy_of : Option Program → EndPolicy
+policy_of None = Exit
+policy_of (Some p) = launch_policy p.launch
+
+abbrev pub ended_phase : EndPolicy → End → Phase
+ended_phase Exit how = phase.Over
+ended_phase Hold how = phase.Held how
+
+abbrev pub ended_program : End → Program → Program
+ended_program how p = in_phase (ended_phase (launch_policy p.launch) how) p
+
+-- how the run ended that is held there
+abbrev pub end_in : Phase → Option End
+end_in (phase.Held how) = Some how
+end_in other = None
+
+abbrev pub end_of : Option Program → Option End
+end_of None = None
+end_of (Some p) = end_in p.phase
+
+-- the opcode that ended the run that is held there
+abbrev pub exception_of : Option Program → Option UndefinedOpcode
+exception_of program = option_and_then exception_at (end_of program)

@@ -1,0 +1,402 @@
+-- What is told of changes by hand.
+use Rattle.std.proofs.Common.{◌≡◌, ◌∙◌, inl, inr, ℕ, List, [], ◌++◌, Bool, true, false}
+use Rattle.std.proofs.Common.{Option, Some, None, Result, Ok, Err, option_map, codes}
+use Rattle.std.proofs.Common.{if◌then◌else◌, refl, sym, ap, true≢false}
+use Rattle.std.specs.List.{list_any}
+use Rattle.base_text.specs.Bytes.{Bytes, Text}
+use Rattle.asm_syntax.specs.Outcome.{◌>>=◌}
+use Rattle.lab_views.specs.declared.view.View.{View}
+use Rattle.lab_views.specs.declared.view.View.TheVariants as view
+use Rattle.lab_shown.specs.declared.shown.Shown.{Shown}
+use Rattle.lab_shown.specs.declared.step.StepKind.{StepKind}
+use Rattle.lab_shown.specs.declared.step.Granularity.{Granularity}
+use Rattle.lab_views.specs.declared.fault.ViewFault.{ViewFault}
+use Rattle.lab_views.specs.Views.{view_of}
+use Rattle.lab_image.specs.Sources.{place_of, source_at}
+use Rattle.lab_core.specs.declared.answer.Answer.{Answer}
+use Rattle.lab_core.specs.declared.answer.Answer.TheVariants as answer
+use Rattle.lab_core.specs.declared.answer.End.{End}
+use Rattle.lab_core.specs.declared.event.Event.TheVariants as event
+use Rattle.lab_core.specs.declared.event.StepRequest.{StepRequest}
+use Rattle.lab_core.specs.declared.fault.EventFault.{EventFault}
+use Rattle.lab_core.specs.declared.run_state.RunState.{RunState}
+use Rattle.lab_core.specs.declared.run_state.RunState.TheVariants.{NoRun, Running, Stopped}
+use Rattle.lab_core.specs.Board.{Board}
+use Rattle.lab_core.specs.Events.{EventResult, result_of, while_stopped, while_running, while_attached}
+use Rattle.lab_core.specs.Events.{with_source, or_source, as_answer, parts_of, going_on}
+use Rattle.lab_core.specs.Events.{after_stop as board_stopped}
+use Rattle.dap_answers.specs.declared.answer.Body.{Body}
+use Rattle.dap_answers.specs.declared.answer.Body.TheVariants as body
+use Rattle.dap_answers.specs.declared.answer.StopReason.TheVariants.{Pause as ByPause}
+use Rattle.dap_editor.specs.declared.message.EditorStop.TheVariants.{Board as AtBoard}
+use Rattle.dap_answers.specs.Murmur.{cell_path}
+use Rattle.dap_talk.specs.declared.command.DapCommand.{DapCommand}
+use Rattle.dap_talk.specs.declared.command.DapCommand.TheVariants as command
+use Rattle.dap_board.specs.Bodies.{body_of}
+use Rattle.dap_board.specs.Commands.{Performed, IsLook as IsBoardLook, first_line, command_result, with_body}
+use Rattle.dap_board.specs.Commands.{step_request}
+use Rattle.dap_editor.specs.declared.message.EditorEvent.TheVariants as told
+use Rattle.dap_editor.specs.declared.message.UndefinedOpcode.{UndefinedOpcode}
+use Rattle.dap_editor.specs.declared.request.EditorCommand.{EditorCommand}
+use Rattle.dap_editor.specs.declared.request.EditorCommand.TheVariants as editor
+use Rattle.dap_editor.specs.declared.request.EvaluateContext.{EvaluateContext}
+use Rattle.dap_editor.specs.declared.request.EvaluateContext.TheVariants as context
+use Rattle.dap_editor.specs.declared.request.RequestContent.{RequestContent}
+use Rattle.dap_editor.specs.declared.request.RequestContent.TheVariants as asked
+use Rattle.dap_editor.specs.declared.request.SignedOffset.{SignedOffset}
+use Rattle.dap_inspect.specs.declared.fault.EvaluateFault.{EvaluateFault}
+use Rattle.dap_inspect.specs.Expressions.{expression_text}
+use Rattle.dap_points.specs.Points.{WantedBreakpointsState, has_place}
+use Rattle.dap_program.specs.declared.messages.FollowUp.{FollowUp}
+use Rattle.dap_program.specs.declared.messages.FollowUp.TheVariants as follow
+use Rattle.dap_program.specs.Boards.{board_after}
+use Rattle.dap_program.specs.Breakpoints.{board_armed_at}
+use Rattle.dap_program.specs.Ends.{exit_code}
+use Rattle.dap_program.specs.Memory.{address_at}
+use Rattle.dap_program.specs.Messages.{event_if, events_of}
+use Rattle.dap_launch.specs.declared.file.FileText.{FileText}
+use Rattle.dap_launch.specs.declared.program.Phase.{Phase}
+use Rattle.dap_launch.specs.declared.program.Phase.TheVariants as phase
+use Rattle.dap_launch.specs.declared.program.Program.{Program}
+use Rattle.dap_launch.specs.Lives.{in_phase, is_live, end_of, exception_of}
+use Rattle.dap_session.specs.States.{SessionState}
+use Rattle.dap_session.specs.Turns.{Replied, change_follow}
+use Rattle.dap_session.specs.Breakpoints.{program_at, armed_where, labels_armed}
+use Rattle.dap_session.specs.Evaluations.{behind, byte_spelled, byte_command, command_with, command_reply}
+use Rattle.dap_session.specs.Evaluations.{value_told, prompting, evaluating}
+use Rattle.dap_session.specs.Launches.{beginning_in, beginning_where}
+use Rattle.dap_session.specs.Memory.{is_stopped, writing_from, writing}
+use Rattle.dap_session.specs.Requests.{board_done, finish_done, resuming_from, explaining, set_configured}
+use Rattle.dap_session.specs.Requests.{resetting, commanding, editing, objection, asking}
+use Rattle.dap_session.specs.Requests.{asking_unless, turn}
+use Rattle.dap_session.specs.Laws.{SameParts, is_invalidated, IsTold, IsWatched, IsLook}
+
+-- ---- what leaves the machine, the devices and the trace
+
+same : (b : Board) → SameParts b b
+same b = record { machine = refl; past = refl; trace = refl }
+
+abbrev KeepsParts : Board → EventResult → Type 0
+KeepsParts b (Ok (a, b')) = SameParts b b'
+KeepsParts b (Err f) = Unit {0}
+
+kept_after : (b : Board) (g : EventResult) → KeepsParts b g → SameParts b (board_after b g)
+kept_after b (Ok (a, b')) kept = kept
+kept_after b (Err f) kept = same b
+
+kept_source : (o : Option (ℕ × List ℕ)) (b : Board) (f : ℕ → List ℕ → EventResult)
+    → ((n : ℕ) (text : List ℕ) → KeepsParts b (f n text)) → KeepsParts b (with_source o f)
+kept_source None b f kept = tt
+kept_source (Some (n, text)) b f kept = kept n text
+
+kept_step : {A : Type 0} (r : Result A EventFault) (b : Board) (f : A → EventResult)
+    → ((x : A) → KeepsParts b (f x)) → KeepsParts b (r >>= f)
+kept_step (Ok x) b f kept = kept x
+kept_step (Err e) b f kept = tt
+
+kept_answer : (r : Result Shown ViewFault) (b : Board) → KeepsParts b (as_answer r b)
+kept_answer (Ok s) b = same b
+kept_answer (Err f) b = tt
+
+kept_show : (v : View) (b : Board) → KeepsParts b (result_of (event.Show v) b)
+kept_show v b = kept_answer (view_of v (parts_of b)) b
+
+kept_dump : (path text : Text) (b : Board) → KeepsParts b (result_of (event.Dump path text) b)
+kept_dump path text b =
+    kept_step (or_source (place_of (record { path = path; text = text }) b.sources)) b _
+    (λ place. record { machine = refl; past = refl; trace = refl })
+
+kept_armed : (path : Text) (lines : List ℕ) (names : List Text) (b : Board)
+    → SameParts b (board_armed_at path lines names b)
+kept_armed path lines names b =
+    kept_after b _ (kept_source (source_at b.sources path) b _
+    (λ n text. record { machine = refl; past = refl; trace = refl }))
+
+kept_where : (o : Option Program) (lines : List ℕ) (names : List Text) (b : Board)
+    → SameParts b (armed_where o lines names b)
+kept_where None lines names b = same b
+kept_where (Some p) lines names b = kept_armed p.launch.program lines names b
+
+kept_labels : (o : Option Program) (names : List Text) (points : WantedBreakpointsState) (b : Board)
+    → SameParts b (labels_armed o names points b)
+kept_labels None names points b = same b
+kept_labels (Some p) names points b = kept_armed p.launch.program _ names b
+
+kept_pause : (a : Bool) (r : RunState) (b : Board)
+    → KeepsParts b (while_attached a (while_running r (Ok (answer.Accepted, board_stopped b))))
+kept_pause false r b = tt
+kept_pause true NoRun b = tt
+kept_pause true Running b = record { machine = refl; past = refl; trace = refl }
+kept_pause true Stopped b = tt
+
+kept_resume : (r : RunState) (step : Option StepRequest) (b : Board)
+    → KeepsParts b (while_stopped r (Ok (answer.Accepted, going_on step b)))
+kept_resume NoRun step b = tt
+kept_resume Running step b = tt
+kept_resume Stopped step b = record { machine = refl; past = refl; trace = refl }
+
+-- ---- what is watched
+
+-- as in IsWatched, without the request
+record Watches (s : SessionState) (r : Replied) : Type 0 where
+  supported : s.settings.supported.invalidated ≡ true
+  live : is_live s.settings.program ≡ true
+  program : r.state.settings.program ≡ s.settings.program
+
+abbrev Tells : SessionState → Replied → Type 0
+Tells s r = Watches s r → IsTold s (events_of r.follow) r.state
+
+told_changes : (x y : Bool) → x ≡ true
+    → list_any is_invalidated (event_if x told.Invalidated ++ event_if y told.Memory) ≡ true
+told_changes true y is = refl
+told_changes false y is = absurd (true≢false (sym is))
+
+told_if : (live : Bool) (s : SessionState) → live ≡ true → s.settings.supported.invalidated ≡ true
+    → list_any is_invalidated
+    (events_of (if live then follow.Changed s.settings.supported else follow.Nothing)) ≡ true
+told_if true s is supported =
+    told_changes s.settings.supported.invalidated s.settings.supported.memory supported
+told_if false s is supported = absurd (true≢false (sym is))
+
+told_change : (s : SessionState) → s.settings.supported.invalidated ≡ true
+    → is_live s.settings.program ≡ true → list_any is_invalidated (events_of (change_follow s)) ≡ true
+told_change s supported live = told_if (is_live s.settings.program) s live supported
+
+dead_over : (o : Option Program) → is_live o ≡ true → option_map (in_phase phase.Over) o ≡ o → ⊥
+dead_over None live is = true≢false (sym live)
+dead_over (Some p) live is = true≢false (sym live ∙ sym (ap is_live is))
+
+either : (b : Bool) (s : SessionState) (r r' : Replied) → Tells s r → Tells s r'
+    → Tells s (if b then r else r')
+either true s r r' one two = one
+either false s r r' one two = two
+
+-- ---- commands of a board
+
+by_hand : (p : Performed) (s : SessionState) → Tells s (board_done p (change_follow s) s)
+by_hand (Ok (b, board)) s = λ w. inr (told_change s w.supported w.live)
+by_hand (Err f) s = λ w. inl (same s.board)
+
+kept_done : (to_body : Answer → Body) (g : EventResult) (f : FollowUp) (s : SessionState)
+    → KeepsParts s.board g → Tells s (board_done (with_body to_body g) f s)
+kept_done to_body (Ok (a, b)) f s kept = λ w. inl kept
+kept_done to_body (Err fault) f s kept = λ w. inl (same s.board)
+
+finished : (p : Performed) (code : ℕ) (s : SessionState) → Tells s (finish_done p code s)
+finished (Ok (b, board)) code s = λ w. absurd (dead_over s.settings.program w.live w.program)
+finished (Err f) code s = λ w. inl (same s.board)
+
+continued : (o : Option End) (s : SessionState) → Tells s (resuming_from o command.Continue s)
+unfolding command_result
+continued None s = kept_done (λ _. body.Continued) _ follow.Continued s (kept_resume s.board.run None s.board)
+continued (Some how) s = finished _ (exit_code how) s
+
+stepped : (o : Option End) (kind : StepKind) (granularity : Granularity) (s : SessionState)
+    → Tells s (resuming_from o (command.Step kind granularity) s)
+unfolding command_result
+stepped None kind granularity s =
+    kept_done (λ _. body.Empty) _ follow.Continued s
+    (kept_resume s.board.run (Some (step_request kind granularity)) s.board)
+stepped (Some how) kind granularity s = finished _ (exit_code how) s
+
+loaded_phase : Phase → Bool
+loaded_phase phase.Loaded = true
+loaded_phase other = false
+
+loaded_in : Option Program → Bool
+loaded_in None = false
+loaded_in (Some p) = loaded_phase p.phase
+
+begun_other : (o : Option Program) (p : Program) → p.phase ≡ phase.Loaded → o ≡ Some p
+    → Some (in_phase phase.Begun p) ≡ o → ⊥
+unfolding loaded_phase loaded_in
+begun_other o p is on begun = true≢false (sym (ap loaded_in (begun ∙ on) ∙ ap loaded_phase is))
+
+begun_in : (h : Phase) (p : Program) (s : SessionState) → p.phase ≡ h → s.settings.program ≡ Some p
+    → Tells s (beginning_in h p (set_configured s))
+begun_in phase.Loaded p s is on = λ w. absurd (begun_other s.settings.program p is on w.program)
+begun_in phase.Begun p s is on = λ w. inl (same s.board)
+begun_in (phase.Held how) p s is on = λ w. inl (same s.board)
+begun_in phase.Over p s is on = λ w. inl (same s.board)
+
+begun_where : (o : Option Program) (s : SessionState) → s.settings.program ≡ o
+    → Tells s (beginning_where o (set_configured s))
+begun_where None s on = λ w. inl (same s.board)
+begun_where (Some p) s on = begun_in p.phase p s refl on
+
+reset_over : (s : SessionState) → Tells s (resetting s)
+unfolding command_result
+reset_over s = λ w. absurd (dead_over s.settings.program w.live w.program)
+
+shown : (v : View) (s : SessionState)
+    → Tells s (board_done (with_body body_of (result_of (event.Show v) s.board)) follow.Nothing s)
+shown v s = kept_done body_of _ follow.Nothing s (kept_show v s.board)
+
+command_told : (c : DapCommand) (s : SessionState) → Tells s (commanding c s)
+unfolding command_result
+command_told command.Initialize s =
+    either s.settings.is_initialized s _ _ (λ w. inl (same s.board)) (λ w. inl (same s.board))
+command_told command.Attach s = λ w. inl (same s.board)
+command_told command.Disconnect s = λ w. inl (same s.board)
+command_told command.ConfigurationDone s = begun_where s.settings.program s refl
+command_told (command.SetBreakpoints path lines) s =
+    either (has_place path s.settings.points.lists) s _ _
+    (λ w. inl (kept_where (program_at path s.settings.program) lines _ s.board)) (λ w. inl (same s.board))
+command_told command.BoardReset s = reset_over s
+command_told command.Threads s = λ w. inl (same s.board)
+command_told (command.StackTrace start levels) s = shown (view.Frames start levels) s
+command_told (command.Scopes frame) s = shown (view.Scopes frame) s
+command_told (command.Variables reference start count) s = shown (view.Variables reference start count) s
+command_told command.Continue s = continued (end_of s.settings.program) s
+command_told (command.Step kind granularity) s = stepped (end_of s.settings.program) kind granularity s
+command_told command.Pause s =
+    kept_done (λ _. body.Empty) (result_of event.Pause s.board) (follow.Stopped (AtBoard ByPause)) s
+    (kept_pause s.board.is_attached s.board.run s.board)
+command_told (command.Disassemble address offset instruction_offset count) s =
+    shown (view.Code (first_line s.board.machine address offset instruction_offset) count) s
+command_told (command.Source path) s = shown (view.Source path) s
+command_told (command.DumpCell code) s =
+    kept_done (λ _. body.SourcePath (cell_path code))
+    (result_of (event.Dump (cell_path code) code) s.board) follow.Nothing s
+    (kept_dump (cell_path code) code s.board)
+command_told command.DebugInfo s = shown view.Info s
+command_told command.InspectVariables s = shown (view.Variables 1 0 0) s
+command_told (command.SetVariable reference name value) s =
+    by_hand (command_result (command.SetVariable reference name value) s.board) s
+command_told (command.BoardSwitches value) s =
+    by_hand (command_result (command.BoardSwitches value) s.board) s
+command_told (command.BoardPress vector) s =
+    by_hand (command_result (command.BoardPress vector) s.board) s
+command_told (command.BoardType text) s =
+    by_hand (command_result (command.BoardType text) s.board) s
+command_told (command.BoardAliases aliases) s =
+    by_hand (command_result (command.BoardAliases aliases) s.board) s
+
+-- ---- evaluations
+
+value_kept : (r : Result Text EvaluateFault) (s : SessionState) → Tells s (value_told r s)
+value_kept (Ok text) s = λ w. inl (same s.board)
+value_kept (Err f) s = λ w. inl (same s.board)
+
+reply_told : (p : Performed) (s : SessionState) → Tells s (command_reply p s)
+reply_told (Ok (b, board)) s = λ w. inr (told_change s w.supported w.live)
+reply_told (Err f) s = λ w. inl (same s.board)
+
+byte_told : (to : ℕ → DapCommand) (o : Option ℕ) (expression : Text) (s : SessionState)
+    → Tells s (prompting (byte_command to o) expression s)
+byte_told to None expression s = λ w. inl (same s.board)
+byte_told to (Some n) expression s = reply_told (command_result (to n) s.board) s
+
+prompt_told : (switches press line : Option Text) (expression : Text) (s : SessionState)
+    → Tells s (prompting (command_with switches press line) expression s)
+prompt_told (Some n) press line expression s = byte_told _ (byte_spelled n) expression s
+prompt_told None (Some n) line expression s = byte_told _ (byte_spelled n) expression s
+prompt_told None None (Some line) expression s =
+    reply_told (command_result (command.BoardType (line ++ codes "\n")) s.board) s
+prompt_told None None None expression s = value_kept (expression_text s.board expression) s
+
+evaluated : (expression : Text) (c : EvaluateContext) (s : SessionState) → Tells s (evaluating expression c s)
+evaluated expression context.Repl s =
+    prompt_told (behind (codes "switches ") expression) (behind (codes "press ") expression)
+    (behind (codes "type ") expression) expression s
+evaluated expression context.Other s = value_kept (expression_text s.board expression) s
+
+-- ---- commands of editors
+
+explained : (o : Option UndefinedOpcode) (s : SessionState) → Tells s (explaining o s)
+explained None s = λ w. inl (same s.board)
+explained (Some undefined) s = λ w. inl (same s.board)
+
+written_from : (o : Option ℕ) (bytes : Bytes) (s : SessionState) → Tells s (writing_from o bytes s)
+written_from None bytes s = λ w. inl (same s.board)
+written_from (Some start) bytes s = λ w. inr (told_change s w.supported w.live)
+
+written : (address : ℕ) (offset : SignedOffset) (bytes : Bytes) (s : SessionState)
+    → Tells s (writing address offset bytes s)
+written address offset bytes s =
+    either (is_stopped s.board.run) s _ _ (written_from (address_at address offset) bytes s)
+    (λ w. inl (same s.board))
+
+edit_told : (c : EditorCommand) (s : SessionState) → Tells s (editing c s)
+edit_told (editor.Initialize supported) s =
+    either s.settings.is_initialized s _ _ (λ w. inl (same s.board)) (λ w. inl (same s.board))
+edit_told editor.Terminate s = λ w. absurd (dead_over s.settings.program w.live w.program)
+edit_told (editor.SetFunctionBreakpoints names) s =
+    λ w. inl (kept_labels s.settings.program names s.settings.points s.board)
+edit_told editor.ExceptionInfo s = explained (exception_of s.settings.program) s
+edit_told (editor.Evaluate expression c) s = evaluated expression c s
+edit_told other s = λ w. inl (same s.board)
+
+-- ---- all requests
+
+watches : (a : RequestContent) (s : SessionState) (r : Replied) → IsWatched a s r.state → Watches s r
+watches a s r w = record { supported = w.supported; live = w.live; program = w.program }
+
+told_asking : (a : RequestContent) (found : Option FileText) (s : SessionState)
+    → IsWatched a s (asking a found s).state → IsTold s (asking a found s).events (asking a found s).state
+told_asking (asked.Editor (editor.Launch l)) found s w = absurd (true≢false w.loads)
+told_asking (asked.Editor editor.Restart) found s w = absurd (true≢false w.loads)
+told_asking (asked.Editor (editor.WriteMemory address offset bytes)) found s w =
+    written address offset bytes s (watches _ s (writing address offset bytes s) w)
+told_asking (asked.Board c) found s w = command_told c s (watches _ s (commanding c s) w)
+told_asking (asked.Faulty f) found s w = inl (same s.board)
+told_asking (asked.Editor c) found s w = edit_told c s (watches _ s (editing c s) w)
+
+told_unless : (o : Option Text) (a : RequestContent) (found : Option FileText) (s : SessionState)
+    → IsWatched a s (asking_unless o a found s).state
+    → IsTold s (asking_unless o a found s).events (asking_unless o a found s).state
+told_unless (Some text) a found s w = inl (same s.board)
+told_unless None a found s w = told_asking a found s w
+
+pub told_turn : (a : RequestContent) (found : Option FileText) (s : SessionState)
+    → IsWatched a s (turn a found s).state → IsTold s (turn a found s).events (turn a found s).state
+unfolding turn
+told_turn a found s w =
+    told_unless (objection a s) a found s
+    (record { supported = w.supported; live = w.live; program = w.program; loads = w.loads })
+
+-- ---- looks
+
+quiet_done : (p : Performed) (s : SessionState) → events_of (board_done p follow.Nothing s).follow ≡ []
+quiet_done (Ok (b, board)) s = refl
+quiet_done (Err f) s = refl
+
+quiet_value : (r : Result Text EvaluateFault) (s : SessionState) → events_of (value_told r s).follow ≡ []
+quiet_value (Ok text) s = refl
+quiet_value (Err f) s = refl
+
+quiet_explained : (o : Option UndefinedOpcode) (s : SessionState) → events_of (explaining o s).follow ≡ []
+quiet_explained None s = refl
+quiet_explained (Some undefined) s = refl
+
+quiet_command : (c : DapCommand) (s : SessionState) → IsBoardLook c → events_of (commanding c s).follow ≡ []
+quiet_command (command.StackTrace start levels) s is = quiet_done _ s
+quiet_command (command.Scopes frame) s is = quiet_done _ s
+quiet_command (command.Variables reference start count) s is = quiet_done _ s
+quiet_command (command.Disassemble address offset instruction_offset count) s is = quiet_done _ s
+quiet_command (command.Source path) s is = quiet_done _ s
+quiet_command command.DebugInfo s is = quiet_done _ s
+quiet_command command.InspectVariables s is = quiet_done _ s
+quiet_command other s is = absurd is
+
+quiet_asking : (a : RequestContent) (found : Option FileText) (s : SessionState) → IsLook a
+    → (asking a found s).events ≡ []
+quiet_asking (asked.Board c) found s is = quiet_command c s is
+quiet_asking (asked.Editor (editor.Evaluate expression context.Other)) found s is =
+    quiet_value (expression_text s.board expression) s
+quiet_asking (asked.Editor editor.ExceptionInfo) found s is =
+    quiet_explained (exception_of s.settings.program) s
+quiet_asking (asked.Editor (editor.ReadMemory address offset count)) found s is = refl
+quiet_asking (asked.Editor (editor.Disassemble address offset instruction_offset count)) found s is = refl
+quiet_asking (asked.Editor editor.LoadedSources) found s is = refl
+quiet_asking other found s is = absurd is
+
+quiet_unless : (o : Option Text) (a : RequestContent) (found : Option FileText) (s : SessionState) → IsLook a
+    → (asking_unless o a found s).events ≡ []
+quiet_unless (Some text) a found s is = refl
+quiet_unless None a found s is = quiet_asking a found s is
+
+pub look_turn : (a : RequestContent) (found : Option FileText) (s : SessionState) → IsLook a
+    → (turn a found s).events ≡ []
+unfolding turn
+look_turn a found s is = quiet_unless (objection a s) a found s is
