@@ -1,6 +1,6 @@
 -- The rows 40 to BF as what the bits of their opcodes name; and DCR, which leaves the interrupt state alone.
 use Rattle.std.proofs.Common.{◌≡◌, ℕ, ◌+◌, ◌-◌, ◌/◌, ◌%◌, ◌<◌, ◌≤◌, ◌==◌, true, false, cond, None, refl, ap}
-use Rattle.std.proofs.Common.{subst, ◌∙◌, arith}
+use Rattle.std.proofs.Common.{subst, sym, ◌∙◌, arith}
 use Rattle.std.proofs.lemmas.Bool.Decides.{nat_tests}
 use Rattle.i80_rows.specs.declared.instruction.Instr.TheVariants.{Nop}
 use Rattle.i80_rows.specs.declared.instruction.Reg.{Reg}
@@ -12,7 +12,7 @@ use Rattle.i80_exec.specs.declared.registers.Stepped.TheVariants.{Halted}
 use Rattle.i80_exec.specs.declared.registers.Interrupts.{Interrupts}
 use Rattle.i80_exec.specs.State.{MachineState, modulo_65536, with_pc, with_interrupts, get, with_reg}
 use Rattle.i80_exec.specs.Effect.{Outcome, done_at, after_operation, to_reg}
-use Rattle.i80_exec.specs.Step.{by_row, interrupts_after}
+use Rattle.i80_exec.specs.Step.{by_row, interrupts_after, row_moves_sp}
 use Rattle.i80_exec.specs.Opcodes.{reg_at, operation_at}
 
 -- the machine with PC past an instruction of one byte, and arming ended
@@ -81,6 +81,18 @@ pub compute_row : (opcode : ℕ) (input : ℕ → ℕ) (m : MachineState) → 12
     → by_row (row opcode) input m ≡ computed opcode m
 compute_row opcode input m low high =
     from_first (λ n. by_row (row n) input m) (λ n. computed n m) 128 opcode (computes input m) low high
+
+keeps_sp : table (λ k. row_moves_sp (row (k + 64))) 128 ≡ table (λ k. false) 128
+unfolding row
+keeps_sp = refl
+
+-- no opcode from 40 to BF moves SP
+pub never_moves : (opcode : ℕ) → 64 ≤ opcode → opcode < 192 → false ≡ row_moves_sp (row opcode)
+never_moves opcode low high =
+    let at : opcode - 64 + 64 ≡ opcode = omega arith in
+    let same =
+    agree (λ k. row_moves_sp (row (k + 64))) (λ k. false) 128 keeps_sp (opcode - 64) (omega arith) in
+    sym (subst (λ n. row_moves_sp (row n) ≡ false) at same)
 
 -- whether the interrupt state is set before DCR or after it is the same
 pub decremented : (m : MachineState) (i : Interrupts) (r : Reg)

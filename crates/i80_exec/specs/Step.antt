@@ -18,8 +18,10 @@ use Rattle.std.specs.Prelude.{
   None,
 }
 use Rattle.i80_rows.specs.declared.instruction.Instr.{Instr}
-use Rattle.i80_rows.specs.declared.instruction.Instr.TheVariants.{Nop, Di, Ei}
-use Rattle.i80_rows.specs.Rows.{Row, Undefined, Alone, Byte, Word}
+use Rattle.i80_rows.specs.declared.instruction.Instr.TheVariants.{Nop, Di, Ei, Lxi, Inx, Dcx, Push, Pop, Sphl}
+use Rattle.i80_rows.specs.declared.instruction.Pair.{Pair}
+use Rattle.i80_rows.specs.declared.instruction.Pair.TheVariants as pair
+use Rattle.i80_rows.specs.Rows.{Row, Undefined, Alone, Byte, Word, row}
 use Rattle.i80_rows.specs.AliasRows.{row_on}
 use Rattle.i80_exec.specs.declared.registers.Stepped.{Stepped}
 use Rattle.i80_exec.specs.declared.registers.Stepped.TheVariants as stepped
@@ -53,12 +55,44 @@ is_arming Arming = true
 is_arming Off = false
 is_arming On = false
 
--- what else a kind says of a step: a quiet one leaves SP as it was, and EI alone leaves arming
+-- what else a kind says of a step: a quiet one leaves SP as it was, and an armed one, EI, alone leaves arming
 abbrev pub Settles : Kind → MachineState → MachineState → Type 0
 Settles kind.Quiet before after =
     (after.regs.sp ≡ before.regs.sp) × (is_arming after.regs.interrupts ≡ false)
-Settles kind.Armed before after = Unit {0}
+Settles kind.Armed before after = is_arming after.regs.interrupts ≡ true
 Settles _ before after = is_arming after.regs.interrupts ≡ false
+
+abbrev pub is_sp : Pair → Bool
+is_sp pair.Sp = true
+is_sp pair.B = false
+is_sp pair.D = false
+is_sp pair.H = false
+
+-- whether an instruction that is neither a call nor a return loads or moves SP: LXI SP, INX SP, DCX SP, SPHL,
+-- PUSH and POP do (8080 User's Manual, chapter 4)
+abbrev pub moves_sp : Instr → Bool
+moves_sp (Lxi p word) = is_sp p
+moves_sp (Inx p) = is_sp p
+moves_sp (Dcx p) = is_sp p
+moves_sp (Push p) = true
+moves_sp (Pop p) = true
+moves_sp Sphl = true
+moves_sp i = false
+
+-- whether a row's instruction does, whatever its operand is
+abbrev pub row_moves_sp : Row → Bool
+row_moves_sp Undefined = false
+row_moves_sp (Alone i) = moves_sp i
+row_moves_sp (Byte f) = moves_sp (f 0)
+row_moves_sp (Word f) = moves_sp (f 0)
+
+abbrev pub is_moved : Kind → Bool
+is_moved kind.Moved = true
+is_moved _ = false
+
+-- the opcode at PC of this machine is one that moves SP: none of the twelve undefined ones does on any board
+abbrev pub is_at_move : MachineState → Bool
+is_at_move m = row_moves_sp (row (byte_at m m.regs.pc))
 
 -- the interrupt state after an instruction that began in one: EI leaves arming, DI leaves off,
 -- and any other instruction that began in arming ends in on
@@ -161,11 +195,13 @@ pub record Performs {S : Type 0} (o : Outcome) (before after : PortDevices S) : 
   pub state_is : after.state ≡ state_after before.next before.state o.operation
   pub spare_is : after.spare + length (operation_list o.operation) ≡ before.spare
 
--- A step of this kind, with this outcome, from the one machine to the other, and of the devices.
+-- A step of this kind, with this outcome, from the one machine to the other, and of the devices. It is
+-- `Moved` exactly where the instruction moves SP.
 pub record IsStepOfKind {S : Type 0} (kind : Kind) (o : Outcome) (machine : MachineState × MachineState)
     (before after : PortDevices S) : Type 0 where
   pub outcome : IsOutcome o machine.1 (answer_of kind machine.1) × Performs o before after
   pub settles : Settles kind machine.0 machine.1
+  pub moved : is_moved kind ≡ is_at_move machine.0
 
 -- EI wasn't the machine's last instruction, and there is room for a port operation
 pub record CanStepSettled (m : MachineState) (room : ℕ) : Type 0 where

@@ -337,6 +337,22 @@ impl Machine {
         u16::from_le_bytes([self.peek(address), self.peek(address.wrapping_add(1))])
     }
 
+    /// The byte after the opcode.
+    #[inline(always)]
+    fn operand(&self) -> u8
+        ensures { result ≡ byte_at self.now (self.now.regs.pc + 1) }
+    {
+        self.peek(self.regs.pc.wrapping_add(1))
+    }
+
+    /// The word after the opcode.
+    #[inline(always)]
+    fn operand_word(&self) -> u16
+        ensures { result ≡ word_at self.now (self.now.regs.pc + 1) }
+    {
+        self.word_at(self.regs.pc.wrapping_add(1))
+    }
+
     #[inline]
     fn store_word(&mut self, address: u16, word: u16)
         ensures { self.new ≡ stored_word self.old address word }
@@ -430,6 +446,7 @@ impl Machine {
     fn call(&mut self, target: u16) -> Kind
         ensures after { self.new ≡ (after_call self.old target).after }
         ensures answer { answer_of result self.new ≡ (after_call self.old target).answer }
+        ensures kind { result ≡ Kind.Called }
     {
         self.push_word(self.regs.pc);
         self.jump(target);
@@ -440,6 +457,7 @@ impl Machine {
     fn ret(&mut self) -> Kind
         ensures after { self.new ≡ (after_return self.old).after }
         ensures answer { answer_of result self.new ≡ (after_return self.old).answer }
+        ensures kind { result ≡ Kind.Returned }
     {
         // It is read so that the proof knows it to be an address: two below SP after the pop.
         let _slot = self.regs.sp;

@@ -1,11 +1,14 @@
 -- Steps made in several parts.
 use Rattle.std.proofs.Common.{◌≡◌, ℕ, zero, suc, ◌+◌, ◌-◌, ◌<◌, ◌≤◌, List, [], ◌++◌, Option, Some, None, Bool}
 use Rattle.std.proofs.Common.{refl, sym, ap, ◌∙◌, subst, append_assoc, append-nil, arith, inl, inr, true}
-use Rattle.std.proofs.Common.{false}
+use Rattle.std.proofs.Common.{false, ◌&&◌, if◌then◌else◌}
+use Rattle.std.specs.Option.{is_none}
+use Rattle.i80_rows.specs.Rows.{is_undefined}
+use Rattle.i80_rows.specs.AliasRows.{row_on}
 use Rattle.std.proofs.lemmas.Bool.{cases_lt}
 use Rattle.std.specs.Option.{option_or, IfSome}
 use Rattle.i80_exec.specs.declared.ports.PortOperation.{PortOperation}
-use Rattle.i80_exec.specs.State.{MachineState}
+use Rattle.i80_exec.specs.State.{MachineState, byte_at}
 use Rattle.i80_exec.specs.Step.{operation_list}
 use Rattle.lab_core.specs.declared.answer.SliceOutcome.{SliceOutcome}
 use Rattle.lab_core.specs.declared.lab.Context.{Context}
@@ -13,7 +16,8 @@ use Rattle.lab_core.specs.Board.{Board, next_change, after_next_step}
 use Rattle.lab_core.specs.Slices.{after_steps, traffic_of, reason, reason_before_fetch, reason_after_step}
 use Rattle.lab_core.specs.Slices.{waiting, end_by_undefined}
 use Rattle.lab_core.specs.Labs.{LabState, RepresentsDuringSlice, Makes, MakesAtMost, OneStepOnIn, ComputesIn}
-use Rattle.lab_core.specs.Labs.{SameBoardIn, in_slice}
+use Rattle.lab_core.specs.Labs.{SameBoardIn, in_slice, undefined_end}
+use Rattle.lab_frames.specs.Steps.{acceptance_due}
 use Rattle.lab_core.specs.Labs.{KeepsAsked, Watches}
 use Rattle.lab_core.proofs.QuietLemmas.{or_or}
 
@@ -103,6 +107,41 @@ makes_end made o b traffic lab machine context machine' context' m free undefine
       represents = keeps lab now all m.represents;
       none_before = m.none_before;
       found_is = reason_undefined now o (free lab now all m.represents) (undefined lab now all m.represents);
+    }
+
+chosen : (b : Bool) (x o : SliceOutcome) → Some o ≡ (if b then Some x else None) → o ≡ x
+chosen true x o is = cc
+chosen false x o is = cc
+
+-- that end is known of the machine alone
+pub undefined_is : (b : Board) (o : SliceOutcome) → Some o ≡ end_by_undefined b → o ≡ undefined_end b.machine
+undefined_is b o is =
+    chosen
+    (is_undefined (row_on b.machine.board (byte_at b.machine b.machine.regs.pc))
+    && is_none (acceptance_due b.machine b.past))
+    (undefined_end b.machine) o is
+
+-- and it is read off the machine that is left
+pub makes_undefined : (made : ℕ) (o : SliceOutcome) (b : Board) (traffic : List PortOperation)
+    (lab : LabState) (machine : MachineState) (context : Context) (machine' : MachineState)
+    (context' : Context)
+    → Makes made None b traffic (in_slice lab machine context)
+    → ComputesIn reason_before_fetch None machine context
+    → ComputesIn end_by_undefined (Some o) machine context
+    → SameBoardIn machine context machine' context'
+    → Makes made (Some (undefined_end machine')) b traffic (in_slice lab machine' context')
+makes_undefined made o b traffic lab machine context machine' context' m free undefined keeps =
+    let now = after_steps made b in
+    let all = traffic ++ traffic_of made b in
+    let m' = makes_end made o b traffic lab machine context machine' context' m free undefined keeps in
+    let is : o ≡ undefined_end now.machine = undefined_is now o (undefined lab now all m.represents) in
+    let left : undefined_end now.machine ≡ undefined_end machine' =
+    ap undefined_end (sym m'.represents.machine) in
+    let R : SliceOutcome → Type 0 = λ o. reason now ≡ Some o in
+    record {
+      represents = m'.represents;
+      none_before = m'.none_before;
+      found_is = subst R (is ∙ left) m'.found_is;
     }
 
 -- or because there is another reason

@@ -1,11 +1,11 @@
 -- The lab after a step of a burst that wasn't quiet, by the update it owes.
-use Rattle.std.proofs.Common.{◌≡◌, ℕ, List, ◌++◌, true, false, Some, None, sym, ap, ◌∙◌, subst}
+use Rattle.std.proofs.Common.{◌≡◌, ◌⊎◌, ℕ, List, ◌++◌, true, false, Some, None, sym, ap, ◌∙◌, subst, inl, inr}
 use Rattle.std.specs.Option.{IsSome}
 use Rattle.i80_exec.specs.declared.registers.Stepped.{Stepped}
 use Rattle.i80_exec.specs.declared.ports.PortOperation.{PortOperation}
 use Rattle.i80_exec.specs.State.{MachineState}
 use Rattle.i80_exec.specs.declared.registers.Kind.{Kind}
-use Rattle.i80_exec.specs.Step.{operation_list, answer_of, Settles}
+use Rattle.i80_exec.specs.Step.{operation_list, answer_of, is_halt, Settles}
 use Rattle.i80_devs.specs.Past.{DeviceState}
 use Rattle.lab_frames.specs.Frames.{TellsSp}
 use Rattle.lab_frames.specs.Steps.{IsBoardStep}
@@ -15,7 +15,7 @@ use Rattle.lab_core.specs.declared.lab.burst.BurstStep.TheVariants.{Within, Last
 use Rattle.lab_core.specs.Board.{Board, next_change, after_next_step}
 use Rattle.lab_core.specs.Slices.{end_by_undefined}
 use Rattle.lab_core.specs.Labs.{LabState, RepresentsDuringSlice, IsInBurst, GoesOn, IsMade}
-use Rattle.lab_core.specs.Labs.{FollowsBurstStep, in_slice}
+use Rattle.lab_core.specs.Labs.{FollowsBurstStep, IsLast, EndsBurst, in_slice, is_step_done}
 use Rattle.lab_core.specs.Labs.{ending_of}
 use Rattle.lab_core.proofs.StandsLemmas.{finds_undefined, finds_no_undefined, stands_undefined}
 use Rattle.lab_core.proofs.QuietLemmas.{stands_followed, no_halt, no_arming}
@@ -111,3 +111,24 @@ owed_in_burst kind machine machine' old new devices site was frame_floor Last re
     made on is = cc
 owed_in_burst kind machine machine' old new devices site was frame_floor (Ended outcome) ready unlatched
     settles none on is = cc
+
+halts : (kind : Kind) (machine machine' : MachineState) (new : Context) → Settles kind machine machine'
+    → new.is_halted ≡ is_halt (answer_of kind machine')
+    → IsLast kind ⊎ (is_step_done new.request new ≡ true) → EndsBurst machine' new
+halts kind machine machine' new settles halted (inl (inl armed)) = inl (rw armed at settles)
+halts kind machine machine' new settles halted (inl (inr halt)) = inr (inl (rw halt at halted))
+halts kind machine machine' new settles halted (inr done) = inr (inr (inl done))
+
+-- the burst ends if the step's result says so
+pub owed_ends : (kind : Kind) (machine machine' : MachineState) (old new : Context) (devices : DeviceState)
+    (site : ℕ) (result : BurstStep) → Settles kind machine machine'
+    → FollowsBurstStep (answer_of kind machine') site machine'.regs.sp (record old {
+      devices =
+          devices;
+    }) new result
+    → (result ≡ Last → IsLast kind ⊎ (is_step_done new.request new ≡ true))
+    → result ≡ Last → EndsBurst machine' new
+owed_ends kind machine machine' old new devices site (Within now) settles made last is = cc
+owed_ends kind machine machine' old new devices site Last settles made last is =
+    halts kind machine machine' new settles (ap (λ (c : Context). c.is_halted) made.rest) (last is)
+owed_ends kind machine machine' old new devices site (Ended outcome) settles none last is = cc

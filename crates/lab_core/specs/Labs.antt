@@ -3,7 +3,7 @@ use Rattle.std.specs.Prelude.{◌≡◌, ◌≢◌, ◌<◌, ◌≤◌, ◌+◌,
 use Rattle.std.specs.Prelude.{false, Option, Some, None, IsSome, is_some, unwrap_or, Result, Ok, Err, ◌⊎◌}
 use Rattle.std.specs.List.{filter}
 use Rattle.std.specs.Option.{IfSome}
-use Rattle.i80_exec.specs.State.{MachineState}
+use Rattle.i80_exec.specs.State.{MachineState, byte_at}
 use Rattle.i80_exec.specs.declared.ports.PortOperation.{PortOperation}
 use Rattle.i80_exec.specs.declared.registers.Stepped.{Stepped}
 use Rattle.i80_exec.specs.declared.registers.Stepped.TheVariants.{Undefined}
@@ -271,6 +271,29 @@ pub record MakesAtMost (most : ℕ) (result : ℕ × Option SliceOutcome) (old n
   pub progress : 1 ≤ most → result.1 ≡ None → 1 ≤ result.0
   pub room : result.1 ≡ None → old.1.devices.spare ≤ new.1.devices.spare + result.0
   pub kept : KeepsAsked old.1 new.1
+
+-- how a run ends where the opcode at PC is undefined
+abbrev pub undefined_end : MachineState → SliceOutcome
+undefined_end m = outcomes.End (ends.Undefined (byte_at m m.regs.pc) m.regs.pc)
+
+-- how a burst that left this machine ended the run, if it did
+abbrev pub end_at : Bool → MachineState → Option SliceOutcome
+end_at true m = Some (undefined_end m)
+end_at false m = None
+
+-- No burst goes on from here: the last instruction was EI or HLT, the pending Step is done, or there is a
+-- reason to stop.
+abbrev pub EndsBurst : MachineState → Context → Type 0
+EndsBurst machine context =
+    (is_arming machine.regs.interrupts ≡ true) ⊎ ((context.is_halted ≡ true)
+    ⊎ ((is_step_done context.request context ≡ true)
+    ⊎ ((outcome : SliceOutcome) × ComputesIn reason_before_fetch (Some outcome) machine context)))
+
+-- As many of the `most` steps were made as a burst makes: all of them, or until a reason was found, or until
+-- no burst went on.
+abbrev pub GoesFar : ℕ → ℕ × Option SliceOutcome → MachineState → Context → Type 0
+GoesFar most result machine context =
+    (result.0 ≡ most) ⊎ (IsSome result.1 ⊎ EndsBurst machine context)
 
 -- ---- events
 

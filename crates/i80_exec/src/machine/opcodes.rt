@@ -5,13 +5,13 @@ ghost use Rattle.i80_rows.specs.AliasRows.{acts, alias_row};
 ghost use Rattle.i80_rows.specs.declared.instruction.Instr.TheVariants.{Nop, Lxi, Inx, Dcx, Dad, Inr, Dcr};
 ghost use Rattle.i80_rows.specs.declared.instruction.Instr.TheVariants.{Mvi, Rotate, AluImmediate, JumpIf};
 ghost use Rattle.i80_rows.specs.declared.instruction.Instr.TheVariants.{CallIf, RetIf, Push, Pop};
-ghost use Rattle.i80_exec.specs.State.{modulo_65536, byte_at, word_at, with_byte, get, with_reg, get_pair};
+ghost use Rattle.i80_exec.specs.State.{modulo_65536, byte_at, with_byte, get, with_reg, get_pair};
 ghost use Rattle.i80_exec.specs.State.{with_pc, with_interrupts};
 ghost use Rattle.i80_exec.specs.Effect.{after_operation, to_reg};
 ghost use Rattle.i80_exec.specs.Opcodes.{reg_at, operation_at};
 ghost use Rattle.i80_exec.specs.Step.{by_row, by_opcode, interrupts_after, answer_of, is_arming};
 ghost use Rattle.i80_exec.specs.Step.{devices_by, IsOutcome, IsStepOfKind, IsAtOpcode, Executes};
-ghost use Rattle.i80_exec.specs.Step.{Performs, Settles};
+ghost use Rattle.i80_exec.specs.Step.{Performs, Settles, is_moved, row_moves_sp};
 
 use crate::machine::{Machine, reg_at};
 use crate::ports::Ports;
@@ -210,6 +210,7 @@ impl Machine {
         requires undefined { is_undefined (row opcode) ≡ true }
         ensures outcome { Executes (alias_row opcode) self.old self.new result }
         ensures settles { Settles result self.old self.new }
+        ensures moved { is_moved result ≡ false }
     {
         let m = self;
         match opcode {
@@ -267,6 +268,7 @@ impl Machine {
             ⊎ (IsOutcome outcome self.new (answer_of result self.new)
             × Performs outcome (devices ports.old) (devices ports.new)) }
         ensures settles { Settles result self.old self.new }
+        ensures moved { is_moved result ≡ row_moves_sp (row opcode) }
     {
         groups! { self ports opcode;
             0x00 0x01 0x02 0x03 0x04 0x05 0x06 0x07 0x08 0x09 0x0a 0x0b 0x0c 0x0d 0x0e 0x0f => step_00;
@@ -287,22 +289,6 @@ impl Machine {
             0xf0 0xf1 0xf2 0xf3 0xf4 0xf5 0xf6 0xf7 0xf8 0xf9 0xfa 0xfb 0xfc 0xfd 0xfe => step_e0;
             _ => step_e0;
         }
-    }
-
-    /// The byte after the opcode.
-    #[inline(always)]
-    fn operand(&self) -> u8
-        ensures { result ≡ byte_at self.now (self.now.regs.pc + 1) }
-    {
-        self.peek(self.regs.pc.wrapping_add(1))
-    }
-
-    /// The word after the opcode.
-    #[inline(always)]
-    fn operand_word(&self) -> u16
-        ensures { result ≡ word_at self.now (self.now.regs.pc + 1) }
-    {
-        self.word_at(self.regs.pc.wrapping_add(1))
     }
 
     /// Sets PC past an instruction of this size. The interrupt state, which is settled, stays.
@@ -489,6 +475,7 @@ impl Machine {
         requires settled { is_arming self.old.regs.interrupts ≡ false }
         ensures outcome { Executes (Word (JumpIf cond)) self.old self.new result }
         ensures settles { Settles result self.old self.new }
+        ensures moved { is_moved result ≡ false }
     {
         let target = self.operand_word();
         self.advance(3);
@@ -503,6 +490,7 @@ impl Machine {
         requires settled { is_arming self.old.regs.interrupts ≡ false }
         ensures outcome { Executes (Word (CallIf cond)) self.old self.new result }
         ensures settles { Settles result self.old self.new }
+        ensures moved { is_moved result ≡ false }
     {
         let target = self.operand_word();
         self.advance(3);
@@ -518,6 +506,7 @@ impl Machine {
         requires settled { is_arming self.old.regs.interrupts ≡ false }
         ensures outcome { Executes (Alone (RetIf cond)) self.old self.new result }
         ensures settles { Settles result self.old self.new }
+        ensures moved { is_moved result ≡ false }
     {
         self.advance(1);
         if self.holds(cond) {
@@ -535,6 +524,7 @@ impl Machine {
         requires high { opcode < 32 }
         ensures outcome { Executes (row opcode) self.old self.new result }
         ensures settles { Settles result self.old self.new }
+        ensures moved { is_moved result ≡ row_moves_sp (row opcode) }
     {
         let m = self;
         opcodes! { m opcode;
@@ -582,6 +572,7 @@ impl Machine {
         requires high { opcode < 64 }
         ensures outcome { Executes (row opcode) self.old self.new result }
         ensures settles { Settles result self.old self.new }
+        ensures moved { is_moved result ≡ row_moves_sp (row opcode) }
     {
         let m = self;
         opcodes! { m opcode;
@@ -658,6 +649,7 @@ impl Machine {
         requires high { opcode < 128 }
         ensures outcome { Executes (row opcode) self.old self.new result }
         ensures settles { Settles result self.old self.new }
+        ensures moved { is_moved result ≡ row_moves_sp (row opcode) }
     {
         self.advance(1);
         if opcode == 0x76 {
@@ -679,6 +671,7 @@ impl Machine {
         requires high { opcode < 192 }
         ensures outcome { Executes (row opcode) self.old self.new result }
         ensures settles { Settles result self.old self.new }
+        ensures moved { is_moved result ≡ row_moves_sp (row opcode) }
     {
         self.advance(1);
         if opcode == 0x9f {
@@ -702,6 +695,7 @@ impl Machine {
         requires input { opcode ≢ 219 }
         ensures outcome { Executes (row opcode) self.old self.new result }
         ensures settles { Settles result self.old self.new }
+        ensures moved { is_moved result ≡ row_moves_sp (row opcode) }
     {
         let m = self;
         opcodes! { m opcode;
@@ -747,6 +741,7 @@ impl Machine {
         requires high { opcode < 256 }
         ensures outcome { Executes (row opcode) self.old self.new result }
         ensures settles { Settles result self.old self.new }
+        ensures moved { is_moved result ≡ row_moves_sp (row opcode) }
     {
         let m = self;
         opcodes! { m opcode;

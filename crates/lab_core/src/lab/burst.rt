@@ -4,14 +4,15 @@
 //! address of the next instruction. After any other step the live frames are updated and the burst
 //! continues, unless the step was HLT or EI or completed the Step.
 ghost use Rattle.std.specs.Prelude.{◌≡◌, ◌+◌, ◌<◌, ◌≤◌, ◌⊎◌, ℕ, true, false, None, IsSome, is_some};
+ghost use Rattle.std.specs.Prelude.{reverse, slice_get};
 ghost use Rattle.i80_exec.specs.declared.registers.Kind.TheVariants.{Quiet, Moved};
 ghost use Rattle.i80_exec.specs.Step.{answer_of};
-ghost use Rattle.lab_frames.specs.Frames.{AtLeast, CallsAt};
+ghost use Rattle.lab_frames.specs.Frames.{AtLeast, CallsAt, frame_floor_of};
 ghost use Rattle.lab_core.specs.Slices.{end_by_undefined};
 ghost use Rattle.lab_core.specs.Labs.{ComputesIn, OneStepOnIn, SameBoardIn, KeepsAsked, IsInBurst};
 ghost use Rattle.lab_core.specs.Labs.{BurstMayBegin};
 ghost use Rattle.lab_core.specs.Labs.{MakesAtMost, LooksUp, GoesOn, IsLast, FollowsBurstStep, ending_of};
-ghost use Rattle.lab_core.specs.Labs.{is_step_done};
+ghost use Rattle.lab_core.specs.Labs.{is_step_done, EndsBurst, GoesFar, undefined_end, end_at};
 
 use crate::answer::{End, SliceOutcome};
 use crate::cold::cold_path;
@@ -47,13 +48,37 @@ fn is_quiet(kind: Kind, sp: u16, frame_floor: u32) -> bool
     }
 }
 
+// How the run ends at an undefined opcode, which is read again. Marked as cold, it would cost a loop that
+// counts in C one and a half instructions a step: that register would be in memory.
+#[inline(never)]
+fn undefined_end(machine: &Machine) -> SliceOutcome
+    ensures { result ≡ undefined_end machine.now }
+{
+    let pc = machine.pc();
+    let opcode = machine.peek(pc);
+    SliceOutcome::End(End::Undefined { opcode, pc })
+}
+
+// How a burst that left this machine ended the run, if it did.
+#[inline(always)]
+fn end_at(machine: &Machine, is_ended: bool) -> Option<SliceOutcome>
+    ensures { result ≡ end_at is_ended machine.now }
+{
+    if is_ended {
+        Some(undefined_end(machine))
+    } else {
+        None
+    }
+}
+
 impl Context {
     /// Whether a burst can begin.
     #[inline(always)]
     pub(super) fn is_ready(&self, machine: &Machine, frame_floor: u32) -> bool
+        requires floor { frame_floor ≡ frame_floor_of (slice_get (reverse self.now.frames) 0) }
         requires above { (sp : ℕ) → sp < frame_floor → AtLeast sp self.now.frames }
         ensures ready { result ≡ true → IsInBurst frame_floor machine.now self.now }
-        ensures sure { IsInBurst frame_floor machine.now self.now → result ≡ true }
+        ensures sure { (floor : ℕ) → IsInBurst floor machine.now self.now → result ≡ true }
     {
         self.only_fetch_can_stop() && !machine.is_arming() && (machine.sp() as u32) < frame_floor
     }
@@ -74,16 +99,19 @@ impl Context {
         requires looks { LooksUp LOOKS_UP self.old }
         requires may { BurstMayBegin most frame_floor IS_ASKED machine.old self.old }
         ensures made { MakesAtMost most result (machine.old, self.old) (machine.new, self.new) }
+        ensures far { GoesFar most result machine.new self.new }
         ensures scratch { IsSome scratch.new }
     {
         let given = scratch.take().unwrap();
         let mut local = mem::replace(machine, given);
-        let made = self.burst(&mut local, most, LOOKS_UP, IS_ASKED, frame_floor);
+        let (made, is_ended) = self.burst(&mut local, most, LOOKS_UP, IS_ASKED, frame_floor);
         *scratch = Some(mem::replace(machine, local));
-        made
+        (made, end_at(machine, is_ended))
     }
 
-    // Makes steps until one ends the burst, or, if breakpoints are checked for, reaches one.
+    // Makes steps until one ends the burst, or, if breakpoints are checked for, reaches one. Returns how many
+    // were made, and whether an undefined opcode ended it: the opcode itself would take a register and an
+    // instruction of each step.
     #[inline(always)]
     fn burst(
         &mut self,
@@ -92,29 +120,31 @@ impl Context {
         looks_up: bool,
         is_asked: bool,
         frame_floor: u32,
-    ) -> (u16, Option<SliceOutcome>)
+    ) -> (u16, bool)
         requires looks { LooksUp looks_up self.old }
         requires may { BurstMayBegin most frame_floor is_asked machine.old self.old }
-        ensures { MakesAtMost most result (machine.old, self.old) (machine.new, self.new) }
+        ensures made { MakesAtMost most (result.0, end_at result.1 machine.new)
+            (machine.old, self.old) (machine.new, self.new) }
+        ensures far { GoesFar most (result.0, end_at result.1 machine.new) machine.new self.new }
     {
         let mut left = most;
         let mut frame_floor = frame_floor;
         while left > 0 {
             match self.burst_step(machine, is_asked, frame_floor) {
                 BurstStep::Within(now) => frame_floor = now,
-                BurstStep::Last => return (most - left + 1, None),
-                BurstStep::Ended(outcome) => {
+                BurstStep::Last => return (most - left + 1, false),
+                BurstStep::Ended(_) => {
                     cold_path();
-                    return (most - left, Some(outcome));
+                    return (most - left, true);
                 }
             }
             left -= 1;
             if let Some(_) = self.met(machine, looks_up) {
                 cold_path();
-                return (most - left, None);
+                return (most - left, false);
             }
         }
-        (most, None)
+        (most, false)
     }
 
     #[inline(always)]
@@ -131,6 +161,7 @@ impl Context {
         ensures ended { IsSome (ending_of result) → SameBoardIn machine.old self.old machine.new self.new }
         ensures made { ending_of result ≡ None → OneStepOnIn machine.old self.old machine.new self.new }
         ensures on { (now : ℕ) → result ≡ BurstStep.Within now → IsInBurst now machine.new self.new }
+        ensures last { result ≡ BurstStep.Last → EndsBurst machine.new self.new }
         ensures spare { self.old.devices.spare ≤ self.new.devices.spare + 1 }
         ensures kept { KeepsAsked self.old self.new }
     {

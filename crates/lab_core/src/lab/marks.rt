@@ -1,12 +1,12 @@
 //! Slices up to a mark.
-ghost use Rattle.std.specs.Prelude.{◌≡◌, ◌+◌, ◌-◌, ◌<◌, ◌≤◌, None, Err, IsSome, is_some, OnErr};
+ghost use Rattle.std.specs.Prelude.{◌≡◌, ◌+◌, ◌-◌, ◌<◌, ◌≤◌, ◌⊎◌, ℕ, true, None, Err, IsSome, is_some, OnErr};
 ghost use Rattle.lab_core.specs.Board.{Board};
 ghost use Rattle.lab_core.specs.Slices.{IsSlice, after_steps, traffic_of, left_by};
 ghost use Rattle.lab_core.specs.Labs.{LabState, RepresentsBoard, RepresentsDuringSlice, in_slice};
 ghost use Rattle.lab_core.specs.Labs.{Watches};
-ghost use Rattle.lab_core.specs.Labs.{BurstMayBegin};
-ghost use Rattle.lab_core.specs.Labs.{MakesAtMost};
-ghost use Rattle.lab_core.specs.Marks.{SlicesTo, Leaves, first_mark, marks_after, IsKept, PassesIn};
+ghost use Rattle.lab_core.specs.Labs.{BurstMayBegin, IsInBurst};
+ghost use Rattle.lab_core.specs.Labs.{MakesAtMost, GoesFar};
+ghost use Rattle.lab_core.specs.Marks.{SlicesTo, Leaves, first_mark, marks_after, IsKept, PassesIn, is_at};
 
 use crate::answer::{Answer, SliceOutcome};
 use crate::cold::cold_path;
@@ -136,6 +136,8 @@ impl Context {
         requires watched { Watches is_watched self.old.is_attached self.old.request }
         requires kept { IsKept machine.old marks.now }
         ensures made { MakesAtMost most result (machine.old, self.old) (machine.new, self.new) }
+        ensures far { (floor : ℕ) → IsInBurst floor machine.old self.old
+            → GoesFar most result machine.new self.new ⊎ (is_at machine.new marks.now ≡ true) }
         ensures passes { PassesIn marks.now result.0 machine.old self.old }
         ensures unmarked { IsSome result.1 → PassesIn marks.now (result.0 + 1) machine.old self.old }
         ensures scratch { IsSome scratch.new }
@@ -166,6 +168,7 @@ impl Context {
         requires may { BurstMayBegin most frame_floor (is_some self.old.request) machine.old self.old }
         requires kept { IsKept machine.old marks.now }
         ensures made { MakesAtMost most result (machine.old, self.old) (machine.new, self.new) }
+        ensures far { GoesFar most result machine.new self.new ⊎ (is_at machine.new marks.now ≡ true) }
         ensures passes { PassesIn marks.now result.0 machine.old self.old }
         ensures unmarked { IsSome result.1 → PassesIn marks.now (result.0 + 1) machine.old self.old }
         ensures scratch { IsSome scratch.new }
@@ -190,6 +193,7 @@ impl Context {
         requires may { BurstMayBegin most frame_floor (is_some self.old.request) machine.old self.old }
         requires kept { IsKept machine.old marks.now }
         ensures made { MakesAtMost most result (machine.old, self.old) (machine.new, self.new) }
+        ensures far { GoesFar most result machine.new self.new ⊎ (is_at machine.new marks.now ≡ true) }
         ensures passes { PassesIn marks.now result.0 machine.old self.old }
         ensures unmarked { IsSome result.1 → PassesIn marks.now (result.0 + 1) machine.old self.old }
     {

@@ -1,5 +1,5 @@
 //! The steps of a slice, in bursts and one by one.
-ghost use Rattle.std.specs.Prelude.{◌≡◌, ◌+◌, ◌≤◌, min, true, None, IfNone, IsSome, is_some};
+ghost use Rattle.std.specs.Prelude.{◌≡◌, ◌+◌, ◌≤◌, ℕ, min, true, None, IfNone, IsSome, is_some};
 ghost use Rattle.i80_exec.specs.Step.{is_halt};
 ghost use Rattle.lab_core.specs.Board.{Board};
 ghost use Rattle.lab_core.specs.Stops.{is_gone_after};
@@ -9,6 +9,7 @@ ghost use Rattle.lab_core.specs.Labs.{LabState, RepresentsBoard, RepresentsDurin
 ghost use Rattle.lab_core.specs.Labs.{ComputesIn};
 ghost use Rattle.lab_core.specs.Labs.{OneStepOnIn, SameBoardIn};
 ghost use Rattle.lab_core.specs.Labs.{Watches, KeepsAsked, OnlyFetchCanStop, MakesAtMost};
+ghost use Rattle.lab_core.specs.Labs.{IsInBurst, GoesFar};
 
 use crate::answer::{End, SliceOutcome};
 use crate::cold::cold_path;
@@ -71,7 +72,8 @@ impl Context {
         (n, reason.unwrap_or(SliceOutcome::More))
     }
 
-    // Makes a burst if one can begin, else one step, or returns the first reason to make none.
+    // Makes a burst if one can begin, as long a one as can be, else one step, or returns the first reason to
+    // make none.
     #[inline(always)]
     fn round(
         &mut self,
@@ -85,6 +87,8 @@ impl Context {
         requires some { 1 ≤ most }
         requires watched { Watches is_watched self.old.is_attached self.old.request }
         ensures made { MakesAtMost most result (machine.old, self.old) (machine.new, self.new) }
+        ensures far { (floor : ℕ) → IsInBurst floor machine.old self.old
+            → GoesFar most result machine.new self.new }
         ensures scratch { IsSome scratch.new }
     {
         if let Some(outcome) = self.reason_before(machine, is_watched) {

@@ -22,6 +22,7 @@ returns c =
           performed;
       sp = rw (outcome.answer_is, outcome.after_is) (instruction-tells (answer devices.panel) machine);
       settles = c.step_settled.ensures.settles;
+      moved = c.step_settled.ensures.moved;
       spare = omega arith;
       unlatched =
           ap (λ (p : PanelState). p.latched) performed.state_is

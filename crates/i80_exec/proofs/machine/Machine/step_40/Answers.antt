@@ -1,5 +1,5 @@
-use Rattle.std.proofs.Common.{refl}
-use Rattle.i80_exec.proofs.OpcodeLemmas.{halt_row, move_row}
+use Rattle.std.proofs.Common.{◌≤◌, ◌<◌, refl, arith}
+use Rattle.i80_exec.proofs.OpcodeLemmas.{never_moves, halt_row, move_row}
 use Rattle.i80_exec.proofs.ArmingLemmas.{never_arming, put_settles}
 use Rattle.i80_exec.proofs.machine.Machine.step_40.Goals as goal
 
@@ -38,3 +38,15 @@ pub returns-clause-settles : goal.returns-clause-settles
 returns-clause-settles c =
     rw (c.put.ensures, c.advance.ensures) (put_settles c.reg_at-to.result _ c.get-byte.result
     (never_arming c.args.self.now.regs.interrupts))
+
+pub returns-then-opcode-eq118-clause-moved : goal.returns-then-opcode-eq118-clause-moved
+returns-then-opcode-eq118-clause-moved c =
+    let low : 64 ≤ c.args.opcode = omega arith in
+    let high : c.args.opcode < 192 = omega arith in
+    never_moves c.args.opcode low high
+
+pub returns-clause-moved : goal.returns-clause-moved
+returns-clause-moved c =
+    let low : 64 ≤ c.args.opcode = omega arith in
+    let high : c.args.opcode < 192 = omega arith in
+    never_moves c.args.opcode low high

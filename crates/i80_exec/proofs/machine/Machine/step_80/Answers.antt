@@ -1,5 +1,5 @@
-use Rattle.std.proofs.Common.{refl}
-use Rattle.i80_exec.proofs.OpcodeLemmas.{compute_row, past}
+use Rattle.std.proofs.Common.{◌≤◌, ◌<◌, refl, arith}
+use Rattle.i80_exec.proofs.OpcodeLemmas.{never_moves, compute_row, past}
 use Rattle.i80_rows.specs.declared.instruction.Operation.TheVariants.{Sbb}
 use Rattle.i80_exec.proofs.ArmingLemmas.{never_arming, operated_settles}
 use Rattle.i80_exec.proofs.machine.Machine.step_80.Goals as goal
@@ -38,3 +38,15 @@ pub returns-clause-settles : goal.returns-clause-settles
 returns-clause-settles c =
     rw (c.operate_by.ensures, c.advance.ensures) (operated_settles _ _ c.get-byte.result
     (never_arming c.args.self.now.regs.interrupts))
+
+pub returns-then-opcode-eq159-clause-moved : goal.returns-then-opcode-eq159-clause-moved
+returns-then-opcode-eq159-clause-moved c =
+    let low : 64 ≤ c.args.opcode = omega arith in
+    let high : c.args.opcode < 192 = omega arith in
+    never_moves c.args.opcode low high
+
+pub returns-clause-moved : goal.returns-clause-moved
+returns-clause-moved c =
+    let low : 64 ≤ c.args.opcode = omega arith in
+    let high : c.args.opcode < 192 = omega arith in
+    never_moves c.args.opcode low high

@@ -1,3 +1,5 @@
+use Rattle.std.proofs.Common.{◌∙◌, sym, ap}
+use Rattle.i80_exec.specs.Step.{is_moved}
 use Rattle.i80_exec.proofs.AliasLemmas.{undefined_left, undefined_keeps, row_is_strict, aliased}
 use Rattle.i80_exec.proofs.machine.Machine.step_opcode.Goals as goal
 
@@ -30,6 +32,7 @@ returns-then-is_alias g c =
           aliased c.args.opcode c.args.self.now _ _ _ _ _ _ alias.0 (rw same at alias.1) o
           c.step_alias.ensures.outcome;
       settles = rw same at c.step_alias.ensures.settles;
+      moved = c.step_alias.ensures.moved ∙ sym (ap is_moved alias.0) ∙ c.step_strict-kind.ensures.moved;
     }
 
 pub returns : goal.returns
@@ -42,4 +45,5 @@ returns g c =
           (let same = undefined_keeps c.args.opcode _ c.args.self.now _ _ undefined o.0 in
           rw same at (strict undefined)))) o;
       settles = c.step_strict-kind.ensures.settles;
+      moved = c.step_strict-kind.ensures.moved;
     }

@@ -1,5 +1,6 @@
-use Rattle.std.proofs.Common.{ap, inl, inr}
+use Rattle.std.proofs.Common.{◌∙◌, ap, inl, inr}
 use Rattle.i80_rows.specs.Rows.{row}
+use Rattle.i80_exec.specs.Step.{row_moves_sp}
 use Rattle.i80_exec.proofs.PortLemmas.{outcome_without_port}
 use Rattle.i80_exec.proofs.machine.Machine.step_strict.Goals as goal
 
@@ -12,4 +13,5 @@ returns g c = record {
         | inr w ↦ w
       ];
   settles = c.step_in_group.ensures.settles;
+  moved = c.step_in_group.ensures.moved ∙ ap (λ n. row_moves_sp (row n)) c.requires.opcode;
 }

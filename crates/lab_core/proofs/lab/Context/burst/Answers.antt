@@ -1,10 +1,10 @@
-use Rattle.std.proofs.Common.{◌≡◌, ◌+◌, ◌-◌, refl, arith}
-use Rattle.lab_core.proofs.BurstLemmas.{makes_more, makes_end, kept_on}
+use Rattle.std.proofs.Common.{◌≡◌, ◌+◌, ◌-◌, refl, inl, inr, arith}
+use Rattle.lab_core.proofs.BurstLemmas.{makes_more, makes_undefined, kept_on}
 use Rattle.lab_core.proofs.QuietLemmas.{looks_kept}
 use Rattle.lab_core.proofs.lab.Context.burst.Goals as goal
 
-pub returns-in-Last : goal.returns-in-Last
-returns-in-Last c =
+pub returns-in-Last-clause-made : goal.returns-in-Last-clause-made
+returns-in-Last-clause-made c =
     let inv = c.loop-left.invariant in
     let below = inv.within in
     let some = c.loop-left-test.true in
@@ -22,14 +22,14 @@ returns-in-Last c =
       kept = kept_on inv.kept c.in-Last.ensures.kept;
     }
 
-pub returns-in-Ended : goal.returns-in-Ended
-returns-in-Ended c =
+pub returns-in-Ended-clause-made : goal.returns-in-Ended-clause-made
+returns-in-Ended-clause-made c =
     let inv = c.loop-left.invariant in
     let below = inv.within in
     let some = c.loop-left-test.true in
     record {
       makes = λ lab b traffic s.
-          makes_end (c.args.most - c.loop-left.left) c.in-Ended.outcome b traffic lab _ _ _ _
+          makes_undefined (c.args.most - c.loop-left.left) _ b traffic lab _ _ _ _
           (inv.makes lab b traffic s) inv.free c.in-Ended.ensures.undefined (c.in-Ended.ensures.ended refl);
       few = omega arith;
       some = λ is. omega arith;
@@ -38,8 +38,8 @@ returns-in-Ended c =
       kept = kept_on inv.kept c.in-Ended.ensures.kept;
     }
 
-pub returns-in-Some : goal.returns-in-Some
-returns-in-Some c =
+pub returns-in-Some-clause-made : goal.returns-in-Some-clause-made
+returns-in-Some-clause-made c =
     let inv = c.loop-left.invariant in
     let below = inv.within in
     let some = c.loop-left-test.true in
@@ -80,8 +80,8 @@ loop-left-preserved c =
       kept = kept_on inv.kept c.in-Within.ensures.kept;
     }
 
-pub returns : goal.returns
-returns c =
+pub returns-clause-made : goal.returns-clause-made
+returns-clause-made c =
     let inv = c.loop-left.invariant in
     let none = c.loop-left-test.false in
     let was = inv.was in
@@ -94,3 +94,15 @@ returns c =
       room = λ none. omega arith;
       kept = inv.kept;
     }
+
+pub returns-in-Last-clause-far : goal.returns-in-Last-clause-far
+returns-in-Last-clause-far c = inr (inr (c.in-Last.ensures.last refl))
+
+pub returns-in-Ended-clause-far : goal.returns-in-Ended-clause-far
+returns-in-Ended-clause-far c = inr (inl refl)
+
+pub returns-in-Some-clause-far : goal.returns-in-Some-clause-far
+returns-in-Some-clause-far c = inr (inr (inr (inr (inr (_, c.in-Some.ensures)))))
+
+pub returns-clause-far : goal.returns-clause-far
+returns-clause-far c = inl refl

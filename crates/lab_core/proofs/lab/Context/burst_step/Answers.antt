@@ -1,7 +1,7 @@
 use Rattle.std.proofs.Common.{◌≡◌, ◌∙◌, sym}
 use Rattle.lab_core.proofs.StandsLemmas.{finds_no_undefined}
 use Rattle.lab_core.proofs.QuietLemmas.{stands_quiet, quiet_done, quiet_settled, quiet_keeps_sp, done-devices}
-use Rattle.lab_core.proofs.FollowLemmas.{finds_owed, keeps_owed, advances_owed, owed_in_burst}
+use Rattle.lab_core.proofs.FollowLemmas.{finds_owed, keeps_owed, advances_owed, owed_in_burst, owed_ends}
 use Rattle.i80_exec.specs.declared.registers.Kind.TheVariants as kind
 use Rattle.lab_core.proofs.lab.Context.burst_step.Goals as goal
 
@@ -146,3 +146,27 @@ returns-in_default-clause-on c = λ now is.
     c.settled_step-kind.ensures.unlatched
     c.settled_step-kind.ensures.settles c.advance-in_default.ensures.follows
     c.advance-in_default.ensures.on is
+
+pub returns-in-Moved-clause-last : goal.returns-in-Moved-clause-last
+returns-in-Moved-clause-last c = λ is.
+    owed_ends kind.Moved c.args.machine.now _ c.args.self.now _ _ _
+    c.advance.result c.in-Moved.ensures.settles c.advance.ensures.follows
+    c.advance.ensures.last is
+
+pub returns-in-Called-clause-last : goal.returns-in-Called-clause-last
+returns-in-Called-clause-last c = λ is.
+    owed_ends kind.Called c.args.machine.now _ c.args.self.now _ _ _
+    c.advance-in-Called.result c.in-Called.ensures.settles c.advance-in-Called.ensures.follows
+    c.advance-in-Called.ensures.last is
+
+pub returns-in-Returned-clause-last : goal.returns-in-Returned-clause-last
+returns-in-Returned-clause-last c = λ is.
+    owed_ends kind.Returned c.args.machine.now _ c.args.self.now _ _ _
+    c.advance-in-Returned.result c.in-Returned.ensures.settles c.advance-in-Returned.ensures.follows
+    c.advance-in-Returned.ensures.last is
+
+pub returns-in_default-clause-last : goal.returns-in_default-clause-last
+returns-in_default-clause-last c = λ is.
+    owed_ends c.settled_step-kind.result c.args.machine.now _ c.args.self.now _ _ _
+    c.advance-in_default.result c.settled_step-kind.ensures.settles c.advance-in_default.ensures.follows
+    c.advance-in_default.ensures.last is

@@ -1,4 +1,4 @@
-use Rattle.std.proofs.Common.{◌≡◌, ◌+◌, ◌-◌, ◌∙◌, sym, refl, arith}
+use Rattle.std.proofs.Common.{◌≡◌, ◌+◌, ◌-◌, ◌∙◌, sym, refl, inl, inr, arith}
 use Rattle.lab_core.proofs.BurstLemmas.{makes_more, makes_end, kept_on}
 use Rattle.lab_core.proofs.QuietLemmas.{looks_kept}
 use Rattle.lab_core.proofs.MarkLemmas.{passes_more, passes_less}
@@ -148,3 +148,18 @@ returns-clause-passes c = λ lab b traffic s.
     let inv = c.loop-left.invariant in
     let all : c.args.most - c.loop-left.left ≡ c.args.most = omega arith in
     passes_less c.args.marks.now b c.args.most (rw all at (inv.passes lab b traffic s))
+
+pub returns-in-Last-clause-far : goal.returns-in-Last-clause-far
+returns-in-Last-clause-far c = inl (inr (inr (c.in-Last.ensures.last refl)))
+
+pub returns-in-Ended-clause-far : goal.returns-in-Ended-clause-far
+returns-in-Ended-clause-far c = inl (inr (inl refl))
+
+pub returns-then-is_at-clause-far : goal.returns-then-is_at-clause-far
+returns-then-is_at-clause-far c = inr (sym c.is_at.ensures ∙ c.if-is_at.true)
+
+pub returns-in-Some-clause-far : goal.returns-in-Some-clause-far
+returns-in-Some-clause-far c = inl (inr (inr (inr (inr (inr (_, c.in-Some.ensures))))))
+
+pub returns-clause-far : goal.returns-clause-far
+returns-clause-far c = inl (inl refl)

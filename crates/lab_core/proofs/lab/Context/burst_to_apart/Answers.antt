@@ -1,6 +1,7 @@
-use Rattle.std.proofs.Common.{sym, subst}
+use Rattle.std.proofs.Common.{◌≡◌, ◌⊎◌, true, sym, subst}
 use Rattle.i80_exec.specs.State.{MachineState}
-use Rattle.lab_core.specs.Labs.{RepresentsDuringSlice, MakesAtMost, in_slice}
+use Rattle.lab_core.specs.Labs.{RepresentsDuringSlice, GoesFar, MakesAtMost, in_slice}
+use Rattle.lab_core.specs.Marks.{is_at}
 use Rattle.lab_core.proofs.lab.Context.burst_to_apart.Goals as goal
 
 pub burst_to-made-requires-clause-may : goal.burst_to-made-requires-clause-may
@@ -26,3 +27,10 @@ returns-clause-unmarked c = λ some lab b traffic s.
     let M : MachineState → Type 0 =
     λ machine. RepresentsDuringSlice (in_slice lab machine c.args.self.now) b traffic in
     c.burst_to-made.ensures.unmarked some lab b traffic (subst M (sym c.replace-local.ensures.value) s)
+
+pub returns-clause-far : goal.returns-clause-far
+returns-clause-far c =
+    let made = c.burst_to-made in
+    let F : MachineState → Type 0 = λ machine.
+    GoesFar c.args.most made.result machine made.new.self ⊎ (is_at machine c.args.marks.now ≡ true) in
+    subst F (sym c.replace.ensures.after) made.ensures.far

@@ -1,4 +1,4 @@
-use Rattle.std.proofs.Common.{◌∙◌, sym, refl, arith}
+use Rattle.std.proofs.Common.{◌∙◌, sym, refl, inl, inr, arith}
 use Rattle.lab_core.proofs.BurstLemmas.{makes_found, makes_within}
 use Rattle.lab_core.proofs.lab.Context.round.Goals as goal
 
@@ -50,3 +50,11 @@ burst_apart-requires-2-clause-may c = record {
   free = c.in_default.ensures;
   asked = cc;
 }
+
+pub returns-in-Some-clause-far : goal.returns-in-Some-clause-far
+returns-in-Some-clause-far c = λ floor ready. inr (inl refl)
+
+pub returns-then-not-is_ready-clause-far : goal.returns-then-not-is_ready-clause-far
+returns-then-not-is_ready-clause-far c = λ floor ready.
+    let is = c.is_ready.ensures.sure floor ready in
+    cc

@@ -1,4 +1,4 @@
-use Rattle.std.proofs.Common.{◌∙◌, ◌+◌, ◌≤◌, sym, refl, arith}
+use Rattle.std.proofs.Common.{◌∙◌, ◌+◌, ◌≤◌, sym, refl, inl, inr, arith}
 use Rattle.lab_core.proofs.BurstLemmas.{makes_found, makes_within}
 use Rattle.lab_core.proofs.MarkLemmas.{passes_few}
 use Rattle.lab_core.proofs.lab.Context.round_to.Goals as goal
@@ -37,3 +37,11 @@ returns-then-not-is_ready-clause-unmarked c = λ some lab b traffic s.
     let less = c.single.ensures.some some in
     let one : c.single.result.0 + 1 ≤ 1 = omega arith in
     passes_few c.args.marks.now _ b _ one s.machine c.requires.kept
+
+pub returns-in-Some-clause-far : goal.returns-in-Some-clause-far
+returns-in-Some-clause-far c = λ floor ready. inl (inr (inl refl))
+
+pub returns-then-not-is_ready-clause-far : goal.returns-then-not-is_ready-clause-far
+returns-then-not-is_ready-clause-far c = λ floor ready.
+    let is = c.is_ready.ensures.sure floor ready in
+    cc
