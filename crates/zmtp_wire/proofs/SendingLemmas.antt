@@ -1,11 +1,11 @@
 -- What was written, one part after the other.
-use Rattle.std.proofs.Common.{◌≡◌, ℕ, List, [], ◌++◌, Option, sym, ap, ◌∙◌, append-nil, append_assoc}
+use Rattle.std.proofs.Common.{◌≡◌, ℕ, List, [], ◌++◌, Option, sym, ap, subst, ◌∙◌, append-nil, append_assoc}
 use Rattle.zmtp_wire.specs.declared.role.Role.{Role}
 use Rattle.zmtp_wire.specs.Writing.{written_greeting, IsReadyOf}
 use Rattle.base_streams.specs.States.{OutletState}
 use Rattle.base_streams.specs.Told.{Told, ToldPrefix, Took, TookPrefix}
 use Rattle.base_streams.proofs.TellLemmas.{told_on}
-use Rattle.zmtp_wire.specs.Sending.{IsHandshakeOf, WrotePrefix, WroteWhole}
+use Rattle.zmtp_wire.specs.Sending.{IsHandshakeOf, WroteGreeting, WrotePrefix, WroteWhole}
 
 pub front_all : (a b : Option (List ℕ)) (x : List ℕ) → Told a b x → ToldPrefix a b x
 front_all a b x o = record { front = x; others = []; told = o; whole = sym (append-nil x) }
@@ -72,3 +72,28 @@ pub wrote_ready_whole : (a b c : OutletState) (greeting ready : List ℕ) (role 
     → WrotePrefix a c role
 wrote_ready_whole a b c greeting ready role e r o p =
     wrote_ready a b c greeting ready role e r o (front_all b.taken c.taken ready p)
+
+-- ---- the greeting was written whole
+
+pub greeted : (a b : OutletState) (greeting : List ℕ) → greeting ≡ written_greeting → Took a b greeting
+    → WroteGreeting a b
+greeted a b greeting e o = record {
+  more = [];
+  took = subst (λ (l : List ℕ). Told a.taken b.taken l) (e ∙ sym (append-nil written_greeting)) o;
+}
+
+-- and then a prefix of READY
+pub greeted_on : (a b c : OutletState) (greeting ready : List ℕ) → greeting ≡ written_greeting
+    → Took a b greeting → TookPrefix b c ready → WroteGreeting a c
+greeted_on a b c greeting ready e o f = record {
+  more = f.front;
+  took =
+      subst (λ (l : List ℕ). Told a.taken c.taken (l ++ f.front)) e
+      (told_on a.taken b.taken c.taken greeting f.front o f.told);
+}
+
+-- and then READY whole
+pub greeted_whole : (a b c : OutletState) (greeting ready : List ℕ) → greeting ≡ written_greeting
+    → Took a b greeting → Took b c ready → WroteGreeting a c
+greeted_whole a b c greeting ready e o p =
+    greeted_on a b c greeting ready e o (front_all b.taken c.taken ready p)

@@ -1,5 +1,5 @@
 -- What `handshake` and `heartbeat` do to a connection.
-use Rattle.std.specs.Prelude.{◌≡◌, Result, IfOk, IfErr, OnOk}
+use Rattle.std.specs.Prelude.{◌≡◌, ◌⊎◌, Result, IfOk, IfErr, OnOk}
 use Rattle.base_streams.specs.States.{InletState, OutletState, IsReadable, IsWritable}
 use Rattle.zmtp_wire.specs.declared.role.Role.{Role}
 use Rattle.zmtp_wire.specs.declared.role.Role.TheVariants.{Rep}
@@ -10,7 +10,7 @@ use Rattle.zmtp_wire.specs.Stream.{DecoderState}
 use Rattle.zmtp_wire.specs.Wire.{Messages}
 use Rattle.zmtp_wire.specs.Receiving.{Received}
 use Rattle.zmtp_wire.specs.Ends.{Blames, Ends, NoPeer}
-use Rattle.zmtp_wire.specs.Sending.{Echoes, WrotePrefix, WroteWhole}
+use Rattle.zmtp_wire.specs.Sending.{Echoes, WroteGreeting, WrotePrefix, WroteWhole}
 
 -- the two directions of a connection: what is read from the peer, and what is written to it
 pub record Connection : Type 0 where
@@ -27,6 +27,8 @@ pub record MakesHandshake (side : Role) (old new : Connection) (result : Result 
   pub received : IfOk result (Received old.inlet new.inlet)
   pub ready : IfOk result (λ peer. peer.decoder.stage ≡ Traffic)
   pub role : IfOk result (λ peer. peer.decoder.role ≡ side)
+  -- nothing is read before the greeting is written: unless the writer took all of it, the reader is as it was
+  pub greets_first : (new.inlet ≡ old.inlet) ⊎ WroteGreeting old.outlet new.outlet
   pub front : WrotePrefix old.outlet new.outlet side
   pub whole : OnOk result (WroteWhole old.outlet new.outlet side)
   pub good : OnOk result (IsReadable new.inlet × IsWritable new.outlet)

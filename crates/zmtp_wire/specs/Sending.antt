@@ -35,6 +35,11 @@ pub record WroteWhole (old new : OutletState) (role : Role) : Type 0 where
   pub is : IsHandshakeOf handshake role
   pub took : Took old new handshake
 
+-- the greeting was written whole, and perhaps more after it
+pub record WroteGreeting (old new : OutletState) : Type 0 where
+  pub more : Bytes
+  pub took : Took old new (written_greeting ++ more)
+
 -- messages as they are written, one after the other
 abbrev pub messages_bytes : Messages → Bytes
 messages_bytes messages = flat_map message_bytes messages

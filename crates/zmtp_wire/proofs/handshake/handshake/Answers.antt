@@ -1,7 +1,7 @@
-use Rattle.std.proofs.Common.{◌∙◌, refl, rules}
+use Rattle.std.proofs.Common.{◌∙◌, refl, rules, inl, inr}
 use Rattle.zmtp_wire.proofs.ReceivingLemmas.{received_first, lost_as, lost_writer}
 use Rattle.zmtp_wire.proofs.SendingLemmas.{wrote_greeting, wrote_greeting_whole, wrote_ready}
-use Rattle.zmtp_wire.proofs.SendingLemmas.{wrote_ready_whole, wrote_whole}
+use Rattle.zmtp_wire.proofs.SendingLemmas.{wrote_ready_whole, wrote_whole, greeted, greeted_on, greeted_whole}
 use Rattle.zmtp_wire.proofs.handshake.handshake.Goals as goal
 
 pub returns-in-Err : goal.returns-in-Err
@@ -9,6 +9,7 @@ returns-in-Err g c = record {
   received = tt;
   ready = tt;
   role = tt;
+  greets_first = inl refl;
   front =
       wrote_greeting _ _ _ _ c.args.role c.greeting-greeting.ensures.bytes c.ready-ready.ensures
       c.in-Err.ensures.front;
@@ -26,6 +27,9 @@ returns-in-Err-await_greeting g c = record {
   received = tt;
   ready = tt;
   role = tt;
+  greets_first =
+      inr (greeted _ (g.W.Outlet.state c.send.new.to) _ c.greeting-greeting.ensures.bytes
+      c.in-Ok.ensures.all);
   front =
       wrote_greeting_whole _ _ _ _ c.args.role c.greeting-greeting.ensures.bytes c.ready-ready.ensures
       c.in-Ok.ensures.all;
@@ -43,6 +47,9 @@ returns-in-Err-send g c = record {
   received = tt;
   ready = tt;
   role = tt;
+  greets_first =
+      inr (greeted_on _ (g.W.Outlet.state c.send.new.to) _ _ _ c.greeting-greeting.ensures.bytes
+      c.in-Ok.ensures.all c.in-Err-send.ensures.front);
   front =
       wrote_ready _ (g.W.Outlet.state c.send.new.to) _ _ _ c.args.role
       c.greeting-greeting.ensures.bytes c.ready-ready.ensures c.in-Ok.ensures.all c.in-Err-send.ensures.front;
@@ -61,6 +68,9 @@ returns-in-Err-await_ready g c = record {
   received = tt;
   ready = tt;
   role = tt;
+  greets_first =
+      inr (greeted_whole _ (g.W.Outlet.state c.send.new.to) _ _ _ c.greeting-greeting.ensures.bytes
+      c.in-Ok.ensures.all c.in-Ok-send.ensures.all);
   front =
       wrote_ready_whole _ (g.W.Outlet.state c.send.new.to) _ _ _ c.args.role
       c.greeting-greeting.ensures.bytes c.ready-ready.ensures c.in-Ok.ensures.all c.in-Ok-send.ensures.all;
@@ -81,6 +91,9 @@ returns g c = record {
       (received_first _ _ c.new.ensures.represents c.new-2.ensures refl));
   ready = search rules;
   role = search rules;
+  greets_first =
+      inr (greeted_whole _ (g.W.Outlet.state c.send.new.to) _ _ _ c.greeting-greeting.ensures.bytes
+      c.in-Ok.ensures.all c.in-Ok-send.ensures.all);
   front =
       wrote_ready_whole _ (g.W.Outlet.state c.send.new.to) _ _ _ c.args.role
       c.greeting-greeting.ensures.bytes c.ready-ready.ensures c.in-Ok.ensures.all c.in-Ok-send.ensures.all;
