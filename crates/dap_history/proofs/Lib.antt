@@ -3,3 +3,4 @@ pub mod RunLemmas
 pub mod ReplayLemmas
 pub mod HistoryLemmas
 pub mod SpacingLemmas
+pub mod SearchLemmas

@@ -152,7 +152,7 @@ slice_keeps outcome.Waiting k b = steps_keep k b
 slice_keeps (outcome.Stop why) k b = steps_keep k b
 slice_keeps (outcome.End how) k b = steps_keep k b
 
-run_keeps : (run : RunState) (n : ℕ) (b new : Board) (reply : Reply) → SlicesRun run n b reply new
+pub run_keeps : (run : RunState) (n : ℕ) (b new : Board) (reply : Reply) → SlicesRun run n b reply new
     → SameRest new b
 run_keeps NoRun n b new reply h = subst (λ x. SameRest x b) (sym h.1) (refl, refl, refl, refl)
 run_keeps Stopped n b new reply h = subst (λ x. SameRest x b) (sym h.1) (refl, refl, refl, refl)

@@ -52,7 +52,7 @@ goes_on a c n b (r ∷ rs) asc first last = elim (cases_lt c r.count) [
 ]
 
 -- before the next input, a run may be split anywhere
-goes_on_before : (a c n : ℕ) (b : Board) (log : List Recorded) → Ascends c log → a ≤ c → c ≤ n
+pub goes_on_before : (a c n : ℕ) (b : Board) (log : List Recorded) → Ascends c log → a ≤ c → c ≤ n
     → at_from a b log n ≡ at_from c (after_steps (c - a) b) log n
 goes_on_before a c n b [] asc first last = steps_split a c n b first last
 goes_on_before a c n b (r ∷ rs) asc first last =

@@ -32,6 +32,12 @@ pub record HasRunOf (was : Board) (lab : LabState) : Type 0 where
   pub past : now.past ≡ was.past
   pub trace : now.trace ≡ was.trace
 
+-- a board's run is that of another board
+pub record HasRun (was now : Board) : Type 0 where
+  pub machine : now.machine ≡ was.machine
+  pub past : now.past ≡ was.past
+  pub trace : now.trace ≡ was.trace
+
 -- ---- what the calls do to it
 
 -- Inputs and moments after more than n steps are forgotten.

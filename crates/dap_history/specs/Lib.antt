@@ -2,3 +2,4 @@ pub mod Logs
 pub mod Runs
 pub mod Spacing
 pub mod Histories
+pub mod Searches

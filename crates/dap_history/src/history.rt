@@ -3,7 +3,7 @@ ghost use Rattle.std.specs.Prelude.{◌≡◌, ◌≤◌, ◌<◌, ◌↔◌, []
 ghost use Rattle.lab_core.specs.Board.{Board};
 ghost use Rattle.lab_core.specs.Labs.{RepresentsBoard};
 ghost use Rattle.lab_core.specs.Moments.{IsMomentOf};
-ghost use Rattle.dap_history.specs.Logs.{latest, later_than};
+ghost use Rattle.dap_history.specs.Logs.{Ascends, latest, later_than};
 ghost use Rattle.dap_history.specs.Runs.{board_at, after_rewind, KeepsRest};
 ghost use Rattle.dap_history.specs.Histories.{IsHistoryOf, HasRunOf, cut_after, with_input, Saves};
 ghost use Rattle.dap_history.specs.Histories.{is_due};
@@ -17,6 +17,9 @@ use lab_core::lab::Lab;
 use lab_core::lab::moments::Moment;
 use std::alloc::{AllocError, Global};
 use std::marker::Model;
+
+/// From this width on, the part of a run that a search sees begins at a saved moment.
+const WIDE: u64 = 1_048_576;
 
 /// The inputs of a run, the moment at which it began, and moments saved on the way.
 #[derive(Drop)]
@@ -53,7 +56,8 @@ impl History {
 
     /// The inputs in order.
     pub fn entries(&self) -> &[Recorded]
-        ensures { result.now ≡ self.now.log }
+        ensures entries { result.now ≡ self.now.log }
+        ensures ascends { Ascends 0 result.now }
     {
         self.log.entries()
     }
@@ -113,6 +117,21 @@ impl History {
         thin(&mut self.moments, count);
         self.moments.push_reserved(SavedMoment { count, moment });
         Ok(())
+    }
+
+    /// Where a search begins that is to see the `width` counts below this one. A wide one begins at a saved
+    /// moment, or at the start, to which the run goes at once.
+    pub(crate) fn low_end(&self, count: u64, width: u64) -> u64
+        ensures { result ≤ count }
+    {
+        let low = count.saturating_sub(width);
+        if width < WIDE {
+            return low;
+        }
+        match nearest(self.moments.as_slice(), low) {
+            Some(i) => self.moments[i].count,
+            None => 0,
+        }
     }
 
     /// Puts the run of this board back, or on, to where it had made `count` steps, with all inputs until

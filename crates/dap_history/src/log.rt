@@ -1,6 +1,6 @@
 //! The log of a run's inputs.
 ghost use Rattle.std.specs.Prelude.{◌≡◌, ◌≤◌, ◌<◌, ◌+◌, ◌↔◌, [], ◌∷◌, ◌++◌, length, IsTrue, OnOk, OnErr, Err};
-ghost use Rattle.dap_history.specs.Logs.{latest, up_to, later_than, size_of_input, log_size};
+ghost use Rattle.dap_history.specs.Logs.{Ascends, latest, up_to, later_than, size_of_input, log_size};
 
 use crate::fault::LogFault;
 use crate::input::{Input, Recorded};
@@ -60,6 +60,21 @@ fn keep_up_to(entries: &mut Vec<Recorded>, count: u64)
     entries.retain(move |entry| entry.count <= count);
 }
 
+/// Of inputs in order, those that came after more than `count` steps.
+pub(crate) fn later(entries: &[Recorded], count: u64) -> &[Recorded]
+    requires { Ascends 0 entries.now }
+    ensures { result.now ≡ later_than count entries.now }
+{
+    let mut rest = entries;
+    while let Some((first, later)) = rest.split_first() {
+        if first.count > count {
+            break;
+        }
+        rest = later;
+    }
+    rest
+}
+
 impl Log {
     /// A log without inputs. It doesn't allocate.
     pub fn new(alloc: Global) -> Log
@@ -73,7 +88,8 @@ impl Log {
 
     /// The inputs in order.
     pub fn entries(&self) -> &[Recorded]
-        ensures { result.now ≡ self.now }
+        ensures entries { result.now ≡ self.now }
+        ensures ascends { Ascends 0 result.now }
     {
         self.entries.as_slice()
     }
@@ -115,13 +131,6 @@ impl Log {
     pub fn later_than(&self, count: u64) -> &[Recorded]
         ensures { result.now ≡ later_than count self.now }
     {
-        let mut rest = self.entries.as_slice();
-        while let Some((first, later)) = rest.split_first() {
-            if first.count > count {
-                break;
-            }
-            rest = later;
-        }
-        rest
+        later(self.entries.as_slice(), count)
     }
 }

@@ -61,8 +61,8 @@ fn slice(lab: &mut Lab, n: u16) -> Result<SliceOutcome, ReplayFault>
     outcome_of(answer, n)
 }
 
-// Lets a run go on that has just stopped or ended, with no debugger attached.
-fn go_on(lab: &mut Lab) -> Result<(), AllocError>
+/// Lets a run go on that has just stopped or ended, with no debugger attached.
+pub(crate) fn go_on(lab: &mut Lab) -> Result<(), AllocError>
     ensures ok { (b : Board) → RepresentsBoard lab.old b
         → OnOk result (RepresentsBoard lab.new (put_back b b)) }
     ensures err { OnErr result (lab.new ≡ lab.old) }

@@ -15,4 +15,6 @@ mod play;
 #[cfg(test)]
 mod runs;
 #[cfg(test)]
+mod searches;
+#[cfg(test)]
 mod seen;

@@ -41,7 +41,7 @@ RET
 NIL: RET
 ";
 
-const PLAYS: [Play; 4] = [
+pub const PLAYS: [Play; 4] = [
     Play {
         about: "a keyboard, interrupts, switches, and changes by hand",
         text: KEYBOARD,

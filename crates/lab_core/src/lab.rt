@@ -112,6 +112,7 @@ impl Lab {
     ghost use Rattle.lab_frames.specs.Live.{live};
     ghost use Rattle.i80_devs.specs.Past as devices;
     ghost use Rattle.lab_image.specs.Loads.{origin_of};
+    ghost use Rattle.lab_image.specs.Breakpoints.{is_met};
     ghost use Rattle.lab_views.specs.Code.{after_instructions};
     ghost use Rattle.lab_core.specs.Board.{Board, opening};
     ghost use Rattle.lab_core.specs.Labs.{RepresentsBoard};
@@ -205,5 +206,13 @@ impl Lab {
         ensures { (b : Board) → RepresentsBoard self.now b → result ≡ origin_of b.loads address }
     {
         self.context.origins.at(address)
+    }
+
+    /// Whether a breakpoint is met at an address.
+    pub fn has_breakpoint_at(&self, address: u16) -> bool
+        ensures { (b : Board) → RepresentsBoard self.now b
+            → result ≡ is_met b.breakpoints b.loads address }
+    {
+        self.context.breakpoints.is_at(address)
     }
 }

@@ -1,7 +1,7 @@
 use Rattle.std.proofs.Common.{◌∙◌, ap, sym, subst}
 use Rattle.dap_history.specs.Logs.{Ascends, later_than}
 use Rattle.dap_history.proofs.LogLemmas.{ascends_from, all_later_than, skipped}
-use Rattle.dap_history.proofs.log.Log.later_than.Goals as goal
+use Rattle.dap_history.proofs.log.later.Goals as goal
 
 pub loop-first-preserved : goal.loop-first-preserved
 loop-first-preserved c =

@@ -1,0 +1,287 @@
+-- The last count that passes a test, and runs up to the next input.
+use Rattle.std.proofs.Common.{◌≡◌, ◌∙◌, ◌≤◌, ◌<◌, ◌-◌, ◌+◌, ℕ, zero, suc, List, [], ◌∷◌, Bool, true, false}
+use Rattle.std.proofs.Common.{nat_lt, ◌&&◌, ◌||◌, ◌==◌, Option, Some, None, is_some, if◌then◌else◌, unwrap_or}
+use Rattle.std.proofs.Common.{Result, Ok, Err, map, refl, sym, ap, subst, arith, inl, inr}
+use Rattle.std.specs.Result.{OnErr}
+use Rattle.std.proofs.lemmas.Bool.{cases_lt, false≢true}
+use Rattle.std.proofs.lemmas.Bool.Decides.{nat_tests}
+use Rattle.lab_image.specs.Addresses.{has}
+use Rattle.lab_core.specs.declared.answer.Answer.{Answer}
+use Rattle.lab_core.specs.declared.fault.EventFault.{EventFault}
+use Rattle.lab_core.specs.Board.{Board}
+use Rattle.lab_core.specs.Slices.{after_steps}
+use Rattle.lab_core.specs.Labs.{LabState}
+use Rattle.lab_core.specs.Marks.{MarksState, SlicesTo, first_mark, marked_at, marks_after, watch_of}
+use Rattle.lab_core.specs.Moments.{MomentState, IsMomentOf, put_back}
+use Rattle.lab_core.proofs.MarkLemmas.{first-before}
+use Rattle.dap_history.specs.declared.goal.Goal.{Goal}
+use Rattle.dap_history.specs.declared.goal.Goal.TheVariants.{Statement, Breakpoint}
+use Rattle.dap_history.specs.declared.input.Recorded.{Recorded}
+use Rattle.dap_history.specs.Logs.{Ascends, later_than}
+use Rattle.dap_history.specs.Runs.{at_from, board_at, detached_run, RunsDetached, OnlyRunChanges, KeepsRest}
+use Rattle.dap_history.specs.Searches.{is_goal, last_below, goal_below, passes, stride_of, IsMarked}
+use Rattle.dap_history.specs.Searches.{SearchState, IsSearchOf, IsScanOf, IsUnderWay}
+use Rattle.dap_history.specs.declared.scan.Scan.{Scan}
+use Rattle.dap_history.proofs.LogLemmas.{all_later, ascends_from}
+use Rattle.dap_history.proofs.RunLemmas.{goes_on, goes_on_before, no_input, steps_as}
+use Rattle.dap_history.proofs.HistoryLemmas.{same_moment}
+use Rattle.dap_history.proofs.ReplayLemmas.{unchanged, keeps_rest, run_keeps}
+
+-- ---- the last count
+
+by_result : (passes : Bool) (a last before : ℕ) (best : Option ℕ) → last ≡ unwrap_or best before
+    → (if passes then a else last) ≡ unwrap_or (if passes then Some a else best) before
+by_result true a last before best seen = refl
+by_result false a last before best seen = seen
+
+-- one count more
+pub seen_next : (test : ℕ → Bool) (a before : ℕ) (best : Option ℕ)
+    → last_below test a ≡ unwrap_or best before
+    → last_below test (suc a) ≡ unwrap_or (if test a then Some a else best) before
+unfolding last_below
+seen_next test a before best seen = by_result (test a) a (last_below test a) before best seen
+
+not_here : (test : ℕ → Bool) (n : ℕ) → test n ≡ false → last_below test (suc n) ≡ last_below test n
+unfolding last_below
+not_here test n isn't = rw isn't refl
+
+-- counts that don't pass
+pub passed_over : (test : ℕ → Bool) (a k : ℕ) → ((j : ℕ) → 1 ≤ j → j < suc k → test (a + j) ≡ false)
+    → last_below test (a + suc k) ≡ last_below test (suc a)
+passed_over test a zero none = let is : a + 1 ≡ suc a = omega arith in ap (last_below test) is
+passed_over test a (suc k) none =
+    let is : a + suc (suc k) ≡ suc (a + suc k) = omega arith in
+    ap (last_below test) is
+    ∙ not_here test (a + suc k) (none (suc k) (omega arith) (omega arith))
+    ∙ passed_over test a k (λ j some below. none j some (omega arith))
+
+-- ---- up to the next input
+
+-- the board j steps later, before any of the inputs that are later
+before_input : (a j : ℕ) (b : Board) (rest : List Recorded) → Ascends (suc (a + j)) rest
+    → at_from a b rest (a + j) ≡ after_steps j b
+before_input a j b [] asc =
+    let is : (a + j) - a ≡ j = omega arith in
+    ap (λ k. after_steps k b) is
+before_input a j b (r ∷ rs) asc =
+    let first = asc.0 in
+    let is : (a + j) - a ≡ j = omega arith in
+    no_input a (a + j) b r rs (omega (arith, first)) ∙ ap (λ k. after_steps k b) is
+
+pub board_between : (start : Board) (log rest : List Recorded) (a k j : ℕ) → Ascends 0 log
+    → rest ≡ later_than a log → Ascends (a + k) rest → j < k
+    → board_at start log (a + j) ≡ after_steps j (board_at start log a)
+board_between start log rest a k j asc is later below =
+    let there = board_at start log a in
+    let ahead : Ascends (suc (a + j)) rest = ascends_from (suc (a + j)) (a + k) rest (omega arith) later in
+    goes_on 0 a (a + j) start log asc (omega arith) (omega arith)
+    ∙ ap (λ xs. at_from a there xs (a + j)) (sym is)
+    ∙ before_input a j there rest ahead
+
+-- the board after k steps and the inputs there
+pub board_then : (start : Board) (log rest : List Recorded) (a k : ℕ) → Ascends 0 log
+    → rest ≡ later_than a log → Ascends (a + k) rest
+    → board_at start log (a + k) ≡ at_from (a + k) (after_steps k (board_at start log a)) rest (a + k)
+board_then start log rest a k asc is later =
+    let there = board_at start log a in
+    let steps : (a + k) - a ≡ k = omega arith in
+    goes_on 0 a (a + k) start log asc (omega arith) (omega arith)
+    ∙ ap (λ xs. at_from a there xs (a + k)) (sym is)
+    ∙ goes_on_before a (a + k) (a + k) there rest later (omega arith) (omega arith)
+    ∙ ap (λ i. at_from (a + k) (after_steps i there) rest (a + k)) steps
+
+-- ---- the test
+
+-- it depends on the run alone
+pub same_goal : (goal : Goal) (resumed : Option ℕ) (was now : Board)
+    → is_goal goal (detached_run resumed was now) ≡ is_goal goal (put_back was now)
+same_goal (Statement depth) resumed was now = refl
+same_goal Breakpoint resumed was now = refl
+
+-- between two tests no board passes
+pub passed_between : (goal : Goal) (was now : Board) (k : ℕ) → k ≤ stride_of goal
+    → ((j : ℕ) → 1 ≤ j → j < k → is_goal Breakpoint (put_back (after_steps j was) now) ≡ false)
+    → (j : ℕ) → 1 ≤ j → j < k → is_goal goal (put_back (after_steps j was) now) ≡ false
+passed_between (Statement depth) was now k few passed j some below = absurd (omega arith)
+passed_between Breakpoint was now k few passed j some below = passed j some below
+
+-- from one test to the next
+pub seen_on : (goal : Goal) (start now : Board) (log rest : List Recorded) (a k before : ℕ)
+    (best : Option ℕ) → Ascends 0 log → rest ≡ later_than a log → Ascends (a + k) rest → 1 ≤ k
+    → k ≤ stride_of goal
+    → ((j : ℕ) → 1 ≤ j → j < k
+    → is_goal Breakpoint (put_back (after_steps j (board_at start log a)) now) ≡ false)
+    → goal_below goal start log now a ≡ unwrap_or best before
+    → goal_below goal start log now (a + k)
+    ≡ unwrap_or (if passes goal start log now a then Some a else best) before
+seen_on goal start now log rest a zero before best asc is later some few passed seen = absurd (omega arith)
+seen_on goal start now log rest a (suc k) before best asc is later some few passed seen =
+    let test = passes goal start log now in
+    passed_over test a k (λ j first below.
+    ap (λ b. is_goal goal (put_back b now)) (board_between start log rest a (suc k) j asc is later below)
+    ∙ passed_between goal (board_at start log a) now (suc k) few passed j first below)
+    ∙ seen_next test a before best seen
+
+-- ---- the log on the way
+
+pub ascends-later_than : (n c : ℕ) (log : List Recorded) → Ascends c log → Ascends (n + 1) (later_than n log)
+ascends-later_than n c [] asc = tt
+ascends-later_than n c (r ∷ rs) asc = elim (cases_lt n r.count) [
+  | inl later ↦ (
+      let is : nat_lt n r.count ≡ true = grind (arith, nat_tests) in
+      let rest = all_later n r.count rs asc.1 later in
+      rw (is, rest) (omega arith, asc.1)
+      )
+  | inr within ↦ (
+      let isn't : nat_lt n r.count ≡ false = grind (arith, nat_tests) in
+      rw isn't (ascends-later_than n r.count rs asc.1)
+      )
+]
+
+by_later : (test : Bool) (r : Recorded) (xs ys : List Recorded) → xs ≡ ys
+    → (if test then r ∷ xs else xs) ≡ (if test then r ∷ ys else ys)
+by_later true r xs ys same = ap (λ zs. r ∷ zs) same
+by_later false r xs ys same = same
+
+pub later_later : (m n : ℕ) (log : List Recorded) → n ≤ m
+    → later_than m (later_than n log) ≡ later_than m log
+later_later m n [] within = refl
+later_later m n (r ∷ rs) within = elim (cases_lt n r.count) [
+  | inl later ↦ (
+      let is : nat_lt n r.count ≡ true = grind (arith, nat_tests) in
+      rw is (by_later (nat_lt m r.count) r _ _ (later_later m n rs within))
+      )
+  | inr before ↦ (
+      let isn't : nat_lt n r.count ≡ false = grind (arith, nat_tests) in
+      let nor : nat_lt m r.count ≡ false = grind (arith, nat_tests) in
+      rw (isn't, nor) (later_later m n rs within)
+      )
+]
+
+-- ---- marks
+
+-- one address more
+pub marked_more : (a n : ℕ) (has met : Bool) → has ≡ (nat_lt a n && met)
+    → (has || (n == a && met)) ≡ (nat_lt a (n + 1) && met)
+marked_more a n has false is = grind (arith, nat_tests)
+marked_more a n has true is = grind (arith, nat_tests)
+
+left_false : (x y : Bool) → (x || y) ≡ false → x ≡ false
+left_false false y is = refl
+left_false true y is = is
+
+-- no board between two marks is at a breakpoint
+pub passed_to : (marks : MarksState) (n k j : ℕ) (resumed : Option ℕ) (was now : Board)
+    → IsMarked now marks → k ≤ first_mark marks n (detached_run resumed was now) → 1 ≤ j → j < k
+    → is_goal Breakpoint (put_back (after_steps j was) now) ≡ false
+passed_to marks n k j resumed was now marked few some below =
+    let b = detached_run resumed was now in
+    let none : marked_at marks b j ≡ false =
+    first-before (marked_at marks b) n 0 j (omega (arith, some)) (omega (arith, below, few)) in
+    let pc = ap (λ (x : Board). x.machine.regs.pc) (steps_as j resumed was now) in
+    sym (marked.addresses (after_steps j was).machine.regs.pc) ∙ ap (has marks.addresses) (sym pc)
+    ∙ left_false _ _ none
+
+pub marked_after : (now b : Board) (k : ℕ) (marks marks' : MarksState) → IsMarked now marks
+    → marks' ≡ marks_after k b marks → IsMarked now marks'
+marked_after now b k marks marks' marked same = subst (λ m. IsMarked now m) (sym same) (record {
+  addresses = marked.addresses;
+  watches = ap (map (watch_of (after_steps (k - 1) b).machine (after_steps k b).machine)) marked.watches;
+})
+
+-- a slice up to a mark leaves all but the run
+pub slice_to_changes : (marks marks' : MarksState) (old new : LabState) (n : ℕ)
+    (reply : Result Answer EventFault) → SlicesTo marks n old reply new
+    → OnErr reply ((new ≡ old) × (marks' ≡ marks)) → OnlyRunChanges old new
+slice_to_changes marks marks' old new n (Err fault) applies same = unchanged old new same.0
+slice_to_changes marks marks' old new n (Ok a) applies same =
+    λ b represents.
+    let x = applies b represents (λ e. cc) in
+    keeps_rest new x.0 b x.2 (run_keeps b.run (first_mark marks n b) b x.0 (Ok a) x.1)
+
+pub rest_then : (mid new : LabState) (now : Board) (x : KeepsRest now mid) → KeepsRest x.now new
+    → KeepsRest now new
+rest_then mid new now x y = record {
+  now = y.now;
+  represents = y.represents;
+  loads = y.loads ∙ x.loads;
+  symbols = y.symbols ∙ x.symbols;
+  sources = y.sources ∙ x.sources;
+  breakpoints = y.breakpoints ∙ x.breakpoints;
+}
+
+pub rest_on : (mid new : LabState) (now : Board) → KeepsRest now mid → OnlyRunChanges mid new
+    → KeepsRest now new
+rest_on mid new now x changes = rest_then mid new now x (changes x.now x.represents)
+
+-- ---- a search
+
+best_none : (best : Option ℕ) → false ≡ is_some best → best ≡ None
+best_none None is = refl
+best_none (Some m) is = absurd (false≢true is)
+
+zero_below : (test : ℕ → Bool) → last_below test 0 ≡ 0
+unfolding last_below
+zero_below test = refl
+
+-- all counts have been seen, and none passes
+pub none_found : (start now : Board) (log : List Recorded) (goal : Goal) (n : ℕ) (s : SearchState)
+    → IsSearchOf start log now goal n s → s.high ≤ s.scan.at → false ≡ is_some s.scan.best
+    → s.low ≡ 0
+    → 0 ≡ goal_below goal start log now n
+none_found start now log goal n s search end none low =
+    let within = search.within in
+    let all : s.scan.at ≡ s.high = omega (arith, within, end) in
+    let last = goal_below goal start log now in
+    sym (zero_below (passes goal start log now)) ∙ ap last (sym low)
+    ∙ ap (λ o. unwrap_or o (last s.low)) (sym (best_none s.scan.best none)) ∙ sym search.scan.seen
+    ∙ ap last all ∙ search.above
+
+-- a new part begins
+pub begun : (start now : Board) (log : List Recorded) (goal : Goal) (n : ℕ) (s : SearchState) (low : ℕ)
+    (lab : LabState) → IsSearchOf start log now goal n s → s.here ≡ None → low ≤ s.high
+    → RunsDetached (board_at start log low) now lab
+    → IsUnderWay start log now goal n
+    (record s { scan = record s.scan { at = low; best = None }; low = low }) lab
+begun start now log goal n s low lab search none within runs = record {
+  search = record {
+    above = search.above;
+    scan = record { seen = refl; marks = search.scan.marks; goal_is = search.scan.goal_is };
+    within = within;
+    here = rw none tt;
+    home = search.home;
+  };
+  runs = runs;
+  entered = none;
+}
+
+-- the scan goes on
+pub scanned : (start now : Board) (log : List Recorded) (goal : Goal) (n : ℕ) (s : SearchState) (scan : Scan)
+    (old new : LabState) → IsUnderWay start log now goal n s old
+    → IsScanOf start log now goal (goal_below goal start log now s.low) scan new → scan.at ≤ s.high
+    → IsUnderWay start log now goal n (record s { scan = scan }) new
+scanned start now log goal n s scan old new way is within = record {
+  search = record {
+    above = way.search.above;
+    scan = is.seen;
+    within = within;
+    here = rw way.entered tt;
+    home = way.search.home;
+  };
+  runs = is.runs;
+  entered = way.entered;
+}
+
+-- the moment at which it is is kept
+pub kept : (start now : Board) (log : List Recorded) (goal : Goal) (n : ℕ) (s : SearchState)
+    (lab : LabState) (moment : MomentState) (way : IsUnderWay start log now goal n s lab)
+    → IsMomentOf moment (detached_run way.runs.0 (board_at start log s.scan.at) now)
+    → IsSearchOf start log now goal n (record s { here = Some moment })
+kept start now log goal n s lab moment way is = record {
+  above = way.search.above;
+  scan = way.search.scan;
+  within = way.search.within;
+  here = same_moment moment (detached_run way.runs.0 (board_at start log s.scan.at) now)
+      (board_at start log s.scan.at) is refl refl refl;
+  home = way.search.home;
+}

@@ -1,0 +1,20 @@
+use Rattle.std.proofs.Common.{◌≡◌, ◌≤◌, ◌-◌, ℕ}
+use Rattle.lab_core.specs.Board.{Board}
+use Rattle.dap_history.specs.declared.goal.Goal.{Goal}
+use Rattle.dap_history.specs.Logs.{later_than}
+use Rattle.dap_history.specs.Runs.{OnlyRunChanges}
+use Rattle.dap_history.specs.Searches.{IsScanOf}
+use Rattle.dap_history.proofs.scan.Scan.go_to.Given as goal
+
+abbrev pub invariant-loop-self : goal.invariant-loop-self
+invariant-loop-self l = record {
+  rest : l.rest ≡ later_than l.self.at l.log;
+  within : l.self.at ≤ l.to;
+  scans : (start now : Board) (goal : Goal) (before : ℕ)
+      → IsScanOf start l.log now goal before l.fn.self l.fn.lab
+      → IsScanOf start l.log now goal before l.self l.lab;
+  changes : OnlyRunChanges l.fn.lab l.lab;
+}
+
+abbrev pub decreases-loop-self : goal.decreases-loop-self
+decreases-loop-self l = l.to - l.self.at

@@ -1,0 +1,10 @@
+//! What a search backward looks for.
+
+/// Where a search ends.
+#[derive(Clone, Copy, PartialEq, Eq, Debug)]
+pub enum Goal {
+    /// Where a statement begins and at most so many frames are live.
+    Statement { depth: usize },
+    /// Where a breakpoint is met.
+    Breakpoint,
+}

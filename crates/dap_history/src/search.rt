@@ -1,0 +1,212 @@
+//! Searches for the last count of steps at which a run was at a goal.
+ghost use Rattle.std.specs.Prelude.{◌≡◌, ◌≤◌, ℕ, List, None, IfOk, OnOk, IfSome};
+ghost use Rattle.lab_core.specs.Board.{Board};
+ghost use Rattle.lab_core.specs.Labs.{RepresentsBoard};
+ghost use Rattle.dap_history.specs.declared.goal.Goal.{Goal};
+ghost use Rattle.dap_history.specs.declared.input.Recorded.{Recorded};
+ghost use Rattle.dap_history.specs.Runs.{board_at, after_rewind, KeepsRest, RunsDetached, OnlyRunChanges};
+ghost use Rattle.dap_history.specs.Histories.{IsHistoryOf, HasRun};
+ghost use Rattle.dap_history.specs.Searches.{goal_below, IsSearchOf, SearchedOn, IsUnderWay};
+ghost use Rattle.dap_history.specs.Searches.{ForEachSearch};
+
+use crate::fault::ReplayFault;
+use crate::goal::Goal;
+use crate::history::History;
+use crate::replay::go_on;
+use crate::scan::{Scan, marks_of};
+use lab_core::lab::Lab;
+use lab_core::lab::moments::Moment;
+use std::alloc::{AllocError, Global};
+use std::marker::Model;
+
+/// The steps below the start of a search that are searched first. Each time it goes on farther below, it's by
+/// eight times as many, up to `MOST`.
+const FIRST: u64 = 64;
+
+const MOST: u64 = 2_097_152;
+
+/// A search for the last count of steps below another at which a run was at a goal. It goes on in parts, so
+/// that other requests can be answered between them.
+#[derive(Drop)]
+pub struct Search {
+    scan: Scan,
+    /// The counts from here on have been seen.
+    low: u64,
+    /// The counts from here on don't pass.
+    high: u64,
+    width: u64,
+    /// The moment at which the scan goes on.
+    here: Option<Moment>,
+    /// The moment at which the search began.
+    home: Moment,
+}
+
+impl Model for Search {
+    ghost use Rattle.dap_history.specs.Searches.{SearchState};
+
+    ghost Value = { SearchState };
+
+    ghost view = { λ s. record {
+      scan = s.scan;
+      low = s.low;
+      high = s.high;
+      here = s.here;
+      home = s.home;
+    } };
+}
+
+// The most steps that a search makes before it lets other requests be answered.
+fn chunk(goal: Goal) -> u64 {
+    match goal {
+        Goal::Statement { .. } => 16_384,
+        Goal::Breakpoint => 65_536,
+    }
+}
+
+impl Search {
+    /// Begins a search below `count` steps, at which the run is.
+    pub fn new(alloc: Global, lab: &Lab, goal: Goal, count: u64) -> Result<Search, AllocError>
+        ensures { (start now : Board) (log : List Recorded) → RepresentsBoard lab.now now
+            → HasRun (board_at start log count) now → IfOk result (IsSearchOf start log now goal count) }
+    {
+        let marks = marks_of(alloc, lab)?;
+        let home = lab.moment()?;
+        Ok(Search {
+            scan: Scan {
+                goal,
+                marks,
+                at: count,
+                best: None,
+                alloc,
+            },
+            low: count,
+            high: count,
+            width: FIRST,
+            here: None,
+            home,
+        })
+    }
+
+    /// Searches on, for about 65,536 steps, or 16,384 if it is for a statement. Returns the count that was
+    /// found, if it was: the run is held there then. Otherwise it is held where the search began.
+    ///
+    /// # Errors
+    ///
+    /// Those of `History::go_to`. The run may then be at any of its moments, and may be going on; another
+    /// call of that may put it where it was.
+    pub fn go_on(&mut self, history: &History, lab: &mut Lab) -> Result<Option<u64>, ReplayFault>
+        ensures ok { ForEachSearch history.now self.old lab.old (λ start now goal n. IfOk result
+            (λ found. SearchedOn start history.now.log now goal n found self.new lab.new)) }
+        ensures rest { ForEachSearch history.now self.old lab.old (λ _ now _ _. KeepsRest now lab.new) }
+    {
+        self.enter(history, lab)?;
+        self.go_farther(history, lab)?;
+        match self.found() {
+            Some(count) => {
+                history.go_to(lab, count)?;
+                Ok(Some(count))
+            }
+            None => {
+                self.pause(lab)?;
+                Ok(None)
+            }
+        }
+    }
+
+    // Makes the run go on from where the scan is, or from the low end of a new part.
+    fn enter(&mut self, history: &History, lab: &mut Lab) -> Result<(), ReplayFault>
+        ensures ok { ForEachSearch history.now self.old lab.old (λ start now goal n. OnOk result
+            (IsUnderWay start history.now.log now goal n self.new lab.new)) }
+        ensures rest { ForEachSearch history.now self.old lab.old (λ _ now _ _. KeepsRest now lab.new) }
+    {
+        match self.here.take() {
+            Some(here) => {
+                lab.put_back(&here)?;
+                Ok(())
+            }
+            None => self.begin_below(history, lab),
+        }
+    }
+
+    // Makes the run go on from the low end of a new part.
+    fn begin_below(&mut self, history: &History, lab: &mut Lab) -> Result<(), ReplayFault>
+        requires { self.old.here ≡ None }
+        ensures ok { ForEachSearch history.now self.old lab.old (λ start now goal n. OnOk result
+            (IsUnderWay start history.now.log now goal n self.new lab.new)) }
+        ensures rest { (start now : Board) → IsHistoryOf start history.now → RepresentsBoard lab.old now
+            → KeepsRest now lab.new }
+    {
+        let low = history.low_end(self.high, self.width);
+        history.go_to(lab, low)?;
+        go_on(lab)?;
+        self.low = low;
+        self.scan.at = low;
+        self.scan.best = None;
+        self.width = self.width.saturating_mul(8).min(MOST);
+        Ok(())
+    }
+
+    // Scans on for a time.
+    fn go_farther(&mut self, history: &History, lab: &mut Lab) -> Result<(), ReplayFault>
+        ensures ok { (start now : Board) (goal : Goal) (n : ℕ)
+            → IsUnderWay start history.now.log now goal n self.old lab.old
+            → OnOk result (IsUnderWay start history.now.log now goal n self.new lab.new) }
+        ensures rest { OnlyRunChanges lab.old lab.new }
+    {
+        let most = self.scan.at.saturating_add(chunk(self.scan.goal));
+        let to = self.high.min(most).max(self.scan.at);
+        self.scan.go_to(lab, history.entries(), to)?;
+        Ok(())
+    }
+
+    // The count that was found.
+    fn found(&self) -> Option<u64>
+        ensures { (start now : Board) (log : List Recorded) (goal : Goal) (n : ℕ)
+            → IsSearchOf start log now goal n self.now
+            → IfSome result (λ m. m ≡ goal_below goal start log now n) }
+    {
+        if self.scan.at < self.high {
+            return None;
+        }
+        if self.scan.best.is_some() {
+            return self.scan.best;
+        }
+        if self.low == 0 {
+            return Some(0);
+        }
+        None
+    }
+
+    // Puts the run back to where the search began, and holds it there.
+    fn pause(&mut self, lab: &mut Lab) -> Result<(), AllocError>
+        ensures ok { (start now : Board) (log : List Recorded) (goal : Goal) (n : ℕ)
+            → IsUnderWay start log now goal n self.old lab.old
+            → OnOk result (SearchedOn start log now goal n None self.new lab.new) }
+        ensures rest { (start now b : Board) (log : List Recorded) (goal : Goal) (n : ℕ)
+            → IsSearchOf start log now goal n self.old → RepresentsBoard lab.old b → KeepsRest b lab.new }
+    {
+        self.keep_place(lab)?;
+        lab.put_back(&self.home)?;
+        lab.hold();
+        Ok(())
+    }
+
+    // Keeps the moment at which the scan is; or, if it has come to its end, goes below its low end.
+    fn keep_place(&mut self, lab: &Lab) -> Result<(), AllocError>
+        ensures ok { (start now : Board) (log : List Recorded) (goal : Goal) (n : ℕ)
+            → IsUnderWay start log now goal n self.old lab.now
+            → OnOk result (IsSearchOf start log now goal n self.new) }
+        ensures home { self.new.home ≡ self.old.home }
+    {
+        if self.scan.at < self.high {
+            let moment = lab.moment()?;
+            self.here = Some(moment);
+            return Ok(());
+        }
+        if self.scan.best.is_none() {
+            self.high = self.low;
+            self.scan.at = self.low;
+        }
+        Ok(())
+    }
+}
