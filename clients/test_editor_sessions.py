@@ -70,10 +70,15 @@ START:  MVI A,'!'
         END MAIN
 """
 
-CAPABILITIES = dict.fromkeys((
-    "supportsConfigurationDoneRequest", "supportsDisassembleRequest", "supportsEvaluateForHovers",
-    "supportsExceptionInfoRequest", "supportsFunctionBreakpoints", "supportsLoadedSourcesRequest", "supportsReadMemoryRequest", "supportsRestartRequest",
-    "supportsSetVariable", "supportsSteppingGranularity", "supportsTerminateRequest", "supportsWriteMemoryRequest"), True)
+CAPABILITIES = {
+    **dict.fromkeys((
+        "supportsConfigurationDoneRequest", "supportsDisassembleRequest", "supportsEvaluateForHovers",
+        "supportsExceptionInfoRequest", "supportsFunctionBreakpoints", "supportsGotoTargetsRequest",
+        "supportsLoadedSourcesRequest", "supportsReadMemoryRequest", "supportsRestartRequest", "supportsSetVariable",
+        "supportsSteppingGranularity", "supportsTerminateRequest", "supportsWriteMemoryRequest"), True),
+    "exceptionBreakpointFilters": [
+        {"filter": "undefined", "label": "Undefined opcodes", "default": True},
+        {"filter": "halt", "label": "HLT", "default": False}]}
 
 # Comes to an undefined opcode behind what it prints.
 RUNS_AWAY = """\
@@ -86,9 +91,12 @@ START:  MVI A,'!'
 # A session with examples/count.asm: the requests and the answers. PATH is the program's path.
 CONVERSATION = (
     ('{"seq":1,"type":"request","command":"initialize","arguments":{"adapterID":"lab80"}}',
-     '{"body":{"supportsConfigurationDoneRequest":true,"supportsDisassembleRequest":true,"supportsEvaluateForHovers":true,'
-     '"supportsExceptionInfoRequest":true,"supportsFunctionBreakpoints":true,"supportsLoadedSourcesRequest":true,"supportsReadMemoryRequest":true,'
-     '"supportsRestartRequest":true,"supportsSetVariable":true,"supportsSteppingGranularity":true,'
+     '{"body":{"exceptionBreakpointFilters":[{"default":true,"filter":"undefined","label":"Undefined opcodes"},'
+     '{"default":false,"filter":"halt","label":"HLT"}],"supportsConfigurationDoneRequest":true,'
+     '"supportsDisassembleRequest":true,"supportsEvaluateForHovers":true,"supportsExceptionInfoRequest":true,'
+     '"supportsFunctionBreakpoints":true,"supportsGotoTargetsRequest":true,"supportsLoadedSourcesRequest":true,'
+     '"supportsReadMemoryRequest":true,"supportsRestartRequest":true,"supportsSetVariable":true,'
+     '"supportsSteppingGranularity":true,'
      '"supportsTerminateRequest":true,"supportsWriteMemoryRequest":true},"command":"initialize","request_seq":1,"seq":1,'
      '"success":true,"type":"response"}'),
     ('{"seq":2,"type":"request","command":"launch","arguments":{"program":"PATH"}}',
@@ -299,7 +307,7 @@ class Breakpoints(Session):
     def test_exceptions_are_none(self):
         editor = self.editor()
         editor.launch(self.count())
-        self.assertEqual(editor.do("setExceptionBreakpoints", filters=[]), {"breakpoints": []})
+        self.assertEqual(editor.do("setExceptionBreakpoints", filters=[]), {})
 
 
 class Runs(Session):

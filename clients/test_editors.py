@@ -159,7 +159,8 @@ class VisualStudioCode(unittest.TestCase):
 
     def test_a_launch_has_the_debuggers_arguments(self):
         self.assertEqual({name: it["type"] for name, it in self.attributes().items()}, {
-            "program": "string", "stopOnEntry": "boolean", "noDebug": "boolean", "aliases": "boolean", "switches": "integer"})
+            "program": "string", "stopOnEntry": "boolean", "noDebug": "boolean", "aliases": "boolean", "switches": "integer",
+            "input": "string", "stopAtEnd": "boolean"})
         for each in self.attributes().values():
             self.assertLessEqual(set(each), {"type", "description", "default", "minimum", "maximum"})
 

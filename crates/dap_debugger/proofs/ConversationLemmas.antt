@@ -1,9 +1,8 @@
 -- Exchanges of a conversation, one after another.
-use Rattle.std.proofs.Common.{◌≡◌, ◌≢◌, ◌⊎◌, ◌≤◌, List, [], ◌∷◌, ◌++◌, length, map, refl, sym, ◌∙◌, ap, subst}
+use Rattle.std.proofs.Common.{◌≡◌, ◌≢◌, ◌⊎◌, List, [], ◌∷◌, ◌++◌, map, refl, sym, ◌∙◌, ap, subst}
 use Rattle.std.proofs.Common.{ℕ, append_assoc, Option, Some, None, Bool, true, false, inl, inr, arith}
 use Rattle.std.proofs.lemmas.List.{append-nil, map-append}
 use Rattle.std.proofs.lemmas.Grind.{flat_map-append}
-use Rattle.std.specs.List.{flat_map}
 use Rattle.base_text.specs.Bytes.{Bytes, Text}
 use Rattle.base_streams.specs.States.{OutletState}
 use Rattle.base_streams.specs.Told.{Told, ToldPrefix}

@@ -1,4 +1,4 @@
-use Rattle.std.proofs.Common.{◌≡◌, ℕ, ◌≤◌, Bool, true, false, List, length, ◌∙◌, sym, ap, subst, arith, refl}
+use Rattle.std.proofs.Common.{◌≡◌, ℕ, ◌≤◌, Bool, true, false, List, length, ◌∙◌, sym, ap, subst, refl}
 use Rattle.std.proofs.Common.{String, Global, Vec, IsUtf8}
 use Rattle.std.specs.String.{string_vec, string_bytes}
 use Rattle.std.specs.Str.{is_utf8}

@@ -1,11 +1,10 @@
 -- What a debugger represents: all requests and slices so far, and all that it sent.
-use Rattle.std.specs.Prelude.{◌≡◌, ◌⊎◌, ℕ, List, [], ◌∷◌, ◌++◌, length}
+use Rattle.std.specs.Prelude.{◌≡◌, ℕ, List, ◌++◌, length}
 use Rattle.base_text.specs.Bytes.{Bytes}
 use Rattle.dap_editor.specs.declared.message.Message.{Message}
-use Rattle.dap_editor.specs.declared.request.RequestContent.{RequestContent}
 use Rattle.dap_session.specs.States.{session_before_requests}
 use Rattle.dap_session.specs.Slices.{Input, play_all}
-use Rattle.dap_session.specs.Represents.{SessionFields, RepresentsSession, IsLeft as SessionIsLeft}
+use Rattle.dap_session.specs.Represents.{SessionFields, RepresentsSession}
 use Rattle.dap_debugger.specs.Sending.{sent_bytes}
 
 -- what a contract sees of it
@@ -22,10 +21,3 @@ pub record Past (d : DebuggerState) (inputs : List Input) (bytes : Bytes) : Type
   pub messages : (play_all inputs session_before_requests).messages ≡ before ++ d.told
   pub count : d.sent ≡ length before
   pub wrote : bytes ≡ sent_bytes 0 before
-
--- If memory runs out no more is sent or waits, and the session is as it was; but of the bytes that a
--- `writeMemory` was to write some may be written, from the first on.
-abbrev pub IsLeft : RequestContent → DebuggerState → DebuggerState → Type 0
-IsLeft a old new =
-    (new ≡ old)
-    ⊎ (SessionIsLeft a old.session new.session × (new ≡ record old { session = new.session }))

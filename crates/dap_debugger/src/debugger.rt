@@ -30,7 +30,7 @@ impl Model for Debugger {
 }
 
 impl Debugger {
-    ghost use Rattle.dap_debugger.specs.Debuggers.{Past, IsLeft};
+    ghost use Rattle.dap_debugger.specs.Debuggers.{Past};
 
     /// A debugger before its first request.
     pub fn new(alloc: Global) -> Result<Debugger, AllocError>
@@ -45,8 +45,7 @@ impl Debugger {
     }
 
     /// Answers a request. `file` is what was found at the path that the request needs (the session's
-    /// `wanted_file`). If memory runs out nothing changes; but of the bytes of a `writeMemory` some may be
-    /// written then, from the first on.
+    /// `wanted_file`). If memory runs out nothing changes.
     pub fn answer(
         &mut self,
         alloc: Global,
@@ -55,7 +54,7 @@ impl Debugger {
     ) -> Result<(), AllocError>
         ensures ok { (inputs : List Input) (bytes : Bytes) → Past self.old inputs bytes
             → OnOk result (Past self.new (inputs ++ asks request file ∷ []) bytes) }
-        ensures err { OnErr result (IsLeft request.asked self.old self.new) }
+        ensures err { OnErr result (self.new ≡ self.old) }
     {
         self.told.reserve(1)?;
         let messages = self.session.take(alloc, request, file)?;

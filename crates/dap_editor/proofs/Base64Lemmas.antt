@@ -1,10 +1,10 @@
 -- A text has bytes in base64 exactly where it is what these are written as.
-use Rattle.std.proofs.Common.{◌≡◌, ◌↔◌, ℕ, List, Some, refl, ap, ◌∙◌}
+use Rattle.std.proofs.Common.{◌≡◌, ◌↔◌, ℕ, List, Some, refl, ap}
 use Rattle.std.specs.Result.{result_ok}
 use Rattle.std.specs.Prelude.{Result, Ok, Err}
 use Rattle.base64.specs.declared.decode.DecodeError.{DecodeError}
 use Rattle.base64.specs.Engines.{standard}
-use Rattle.base64.specs.GeneralPurpose.{IsBytes, IsStrict, decode_of, decoded_of, encode_of}
+use Rattle.base64.specs.GeneralPurpose.{IsBytes, IsStrict, decode_of, decoded_of}
 use Rattle.base64.proofs.EngineFacts.{decode_of_iff}
 use Rattle.dap_editor.specs.Argument.{bytes_of}
 use Rattle.dap_editor.specs.Json.{base64_text}

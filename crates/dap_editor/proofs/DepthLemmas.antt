@@ -1,7 +1,7 @@
 -- How deep messages nest.
-use Rattle.std.proofs.Common.{◌≡◌, ◌≤◌, ℕ, ◌==◌, if◌then◌else◌, Bool, true, false, Option, Some, None}
+use Rattle.std.proofs.Common.{◌≤◌, ℕ, ◌==◌, if◌then◌else◌, Bool, true, false, Option, Some, None}
 use Rattle.std.proofs.Common.{List, [], ◌∷◌, ◌++◌, codes, refl, arith}
-use Rattle.serde_json.specs.Data.{Data, boolean, string, depth}
+use Rattle.serde_json.specs.Data.{boolean, string, depth}
 use Rattle.dap_answers.specs.Json.{object_of, whole_number, reference}
 use Rattle.dap_answers.specs.declared.answer.Event.TheVariants as board
 use Rattle.dap_answers.proofs.DepthLemmas.{fits, items_within, body_is_shallow, event_is_shallow}
@@ -18,19 +18,9 @@ use Rattle.dap_editor.specs.declared.message.EditorEvent.{EditorEvent}
 use Rattle.dap_editor.specs.declared.message.EditorEvent.TheVariants as event
 use Rattle.dap_editor.specs.declared.message.Message.{Message}
 use Rattle.dap_editor.specs.declared.message.Message.TheVariants.{Response, Event}
-use Rattle.dap_editor.specs.Json.{
-  line_members,
-  placed_json,
-  source_json,
-  data_members,
-  memory_json,
-  editor_body_json,
-  outcome_json,
-  stopped_json,
-  output_json,
-  editor_event_json,
-  message_json,
-}
+use Rattle.dap_editor.specs.Json.{line_members, placed_json, source_json, data_members, editor_body_json}
+use Rattle.dap_editor.specs.Json.{outcome_json, stopped_json, output_json, editor_event_json}
+use Rattle.dap_editor.specs.Json.{message_json}
 
 placed_by : (id : ℕ) (line : Option ℕ) (is_verified : Bool) → depth (object_of (
     (codes "id", whole_number id) ∷ line_members line ++
@@ -56,6 +46,8 @@ in_body (body.Breakpoints bs) =
 in_body (body.Memory address bytes count) = counted address bytes (count == 0) count
 in_body (body.Sources paths) =
     let h = items_within 1 source_json (λ path. fits _ 1 refl) paths in omega (arith, h)
+in_body (body.Targets None) = fits _ 5 refl
+in_body (body.Targets (Some target)) = fits _ 5 refl
 in_body _ = fits _ 5 refl
 
 in_outcome : (seq request_seq : ℕ) (command : List ℕ) (o : EditorOutcome)
@@ -65,6 +57,7 @@ in_outcome seq request_seq command (Refused message) = fits _ 6 refl
 
 stopped : (seq : ℕ) (s : EditorStop) → depth (stopped_json seq s) ≤ 6
 stopped seq stop.Entry = fits _ 6 refl
+stopped seq stop.Goto = fits _ 6 refl
 stopped seq stop.Halted = fits _ 6 refl
 stopped seq (stop.Exception u) = fits _ 6 refl
 stopped seq (stop.Board reason) = event_is_shallow seq (board.Stopped reason)

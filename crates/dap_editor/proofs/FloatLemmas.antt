@@ -19,19 +19,9 @@ use Rattle.dap_editor.specs.declared.message.EditorEvent.{EditorEvent}
 use Rattle.dap_editor.specs.declared.message.EditorEvent.TheVariants as event
 use Rattle.dap_editor.specs.declared.message.Message.{Message}
 use Rattle.dap_editor.specs.declared.message.Message.TheVariants.{Response, Event}
-use Rattle.dap_editor.specs.Json.{
-  line_members,
-  placed_json,
-  source_json,
-  data_members,
-  memory_json,
-  editor_body_json,
-  outcome_json,
-  stopped_json,
-  output_json,
-  editor_event_json,
-  message_json,
-}
+use Rattle.dap_editor.specs.Json.{line_members, placed_json, source_json, data_members, editor_body_json}
+use Rattle.dap_editor.specs.Json.{outcome_json, stopped_json, output_json, editor_event_json}
+use Rattle.dap_editor.specs.Json.{message_json}
 
 placed_by : (id : ℕ) (line : Option ℕ) (is_verified : Bool) → has_float (object_of (
     (codes "id", whole_number id) ∷ line_members line ++
@@ -56,6 +46,8 @@ in_body (body.Breakpoints bs) = rw (no_float_in placed_json placed bs) refl
 in_body (body.Memory address bytes count) =
     counted (string (reference address)) bytes (count == 0) count refl
 in_body (body.Sources paths) = rw (no_float_in source_json (λ path. refl) paths) refl
+in_body (body.Targets None) = refl
+in_body (body.Targets (Some target)) = refl
 in_body _ = refl
 
 in_outcome : (seq request_seq : ℕ) (command : List ℕ) (o : EditorOutcome)
@@ -65,6 +57,7 @@ in_outcome seq request_seq command (Refused message) = refl
 
 stopped : (seq : ℕ) (s : EditorStop) → has_float (stopped_json seq s) ≡ false
 stopped seq stop.Entry = refl
+stopped seq stop.Goto = refl
 stopped seq stop.Halted = refl
 stopped seq (stop.Exception u) = refl
 stopped seq (stop.Board reason) = event_has_no_float seq (board.Stopped reason)

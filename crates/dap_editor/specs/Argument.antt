@@ -8,18 +8,21 @@ use Rattle.std.specs.Prelude.{
   ◌≤◌,
   nat_le,
   ◌&&◌,
+  ◌||◌,
   if◌then◌else◌,
   length,
   List,
   [],
   ◌∷◌,
   Bool,
+  false,
   Option,
   Some,
   None,
   is_none,
   option_map,
   option_and_then,
+  unwrap_or,
   codes,
 }
 use Rattle.std.specs.Str.{bytes_eq}
@@ -28,9 +31,12 @@ use Rattle.base64.specs.Engines.{standard}
 use Rattle.base64.specs.GeneralPurpose.{decoded_of}
 use Rattle.serde_json.specs.Data.{Data, Items, no_items, item}
 use Rattle.serde_json.specs.Find.{get, as_number, as_i64, as_str, as_array}
+use Rattle.lab_shown.specs.declared.step.Granularity.{Granularity}
+use Rattle.dap_talk.specs.Argument.{granularity_of}
 use Rattle.dap_talk.specs.Argument.{argument_at, at_most_256, address_of, text_at, when_between}
 use Rattle.dap_editor.specs.declared.request.SignedOffset.{SignedOffset}
 use Rattle.dap_editor.specs.declared.request.SignedOffset.TheVariants.{Forward, Back}
+use Rattle.dap_editor.specs.declared.request.ExceptionFilters.{ExceptionFilters}
 use Rattle.dap_editor.specs.declared.request.EvaluateContext.{EvaluateContext}
 use Rattle.dap_editor.specs.declared.request.EvaluateContext.TheVariants.{Repl, Other}
 
@@ -74,6 +80,34 @@ context_named name = if bytes_eq name (codes "repl") then Repl else Other
 
 abbrev pub context : Data → Option EvaluateContext
 context d = option_map context_named (as_str d)
+
+-- `instruction`, or any other text
+abbrev pub granularity : Data → Option Granularity
+granularity d = option_map granularity_of (as_str d)
+
+-- ---- the filters of ends
+
+abbrev pub is_text : Text → Data → Bool
+is_text text d = unwrap_or (option_map (λ t. bytes_eq t text) (as_str d)) false
+
+abbrev pub has_text : Text → Items → Bool
+has_text text no_items = false
+has_text text (item d ds) = is_text text d || has_text text ds
+
+abbrev pub no_filters : ExceptionFilters
+no_filters = record { undefined = false; halt = false }
+
+-- others are ignored
+abbrev pub filters_in : Items → ExceptionFilters
+filters_in ds = record {
+  undefined = has_text (codes "undefined") ds;
+  halt = has_text (codes "halt") ds;
+}
+
+abbrev pub filters : Data → Option ExceptionFilters
+filters d = option_map filters_in (as_array d)
+
+-- ---- breakpoints at functions
 
 -- conditions and hit counts aren't supported, whatever their values are
 abbrev pub is_unconditional : Data → Bool

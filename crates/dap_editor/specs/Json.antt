@@ -15,6 +15,7 @@ use Rattle.std.specs.Prelude.{
   Some,
   None,
   option_map,
+  option_to_list,
   unwrap_or,
   codes,
 }
@@ -24,12 +25,14 @@ use Rattle.base_text.specs.Hexadecimal.{upper_byte, upper_word}
 use Rattle.base_text.specs.Latin.{latin_text}
 use Rattle.base64.specs.Engines.{standard}
 use Rattle.base64.specs.GeneralPurpose.{encode_of}
-use Rattle.serde_json.specs.Data.{Data, boolean, string}
+use Rattle.serde_json.specs.Data.{Data, array, boolean, string}
+use Rattle.serde_json.specs.View.{items_of}
 use Rattle.dap_answers.specs.declared.answer.Event.TheVariants as board
 use Rattle.dap_answers.specs.Json.{object_of, whole_number, list_of, one_list, reference, body_json}
 use Rattle.dap_answers.specs.Json.{bare_response, refusal_json, bare_event, event_with_body, event_json}
 use Rattle.dap_editor.specs.declared.message.PlacedBreakpoint.{PlacedBreakpoint}
 use Rattle.dap_editor.specs.declared.message.UndefinedOpcode.{UndefinedOpcode}
+use Rattle.dap_editor.specs.declared.message.GotoTarget.{GotoTarget}
 use Rattle.dap_editor.specs.declared.message.EditorBody.{EditorBody}
 use Rattle.dap_editor.specs.declared.message.EditorBody.TheVariants as body
 use Rattle.dap_editor.specs.declared.message.EditorOutcome.{EditorOutcome}
@@ -80,18 +83,43 @@ abbrev pub unreadable_members : ℕ → List (Text × Data)
 unreadable_members count =
     if count == 0 then [] else (codes "unreadableBytes", whole_number count) ∷ []
 
+abbrev pub filter_json : Text → Text → Bool → Data
+filter_json name label is_default = object_of (
+    (codes "default", boolean is_default) ∷
+    (codes "filter", string name) ∷
+    (codes "label", string label) ∷ [])
+
+-- an editor shows its address
+abbrev pub target_json : GotoTarget → Data
+target_json t = object_of (
+    (codes "id", whole_number t.address) ∷
+    (codes "instructionPointerReference", string (reference t.address)) ∷
+    (codes "label", string (upper_word t.address)) ∷
+    (codes "line", whole_number t.line) ∷ [])
+
 -- ---- bodies
 
 abbrev pub can : Text → Text × Data
 can key = (key, boolean true)
 
+abbrev pub undefined_filter : Data
+undefined_filter = filter_json (codes "undefined") (codes "Undefined opcodes") true
+
+abbrev pub halt_filter : Data
+halt_filter = filter_json (codes "halt") (codes "HLT") false
+
+abbrev pub filters_json : Data
+filters_json = array (items_of (undefined_filter ∷ halt_filter ∷ []))
+
 abbrev pub capabilities_json : Data
 capabilities_json = object_of (
+    (codes "exceptionBreakpointFilters", filters_json) ∷
     can (codes "supportsConfigurationDoneRequest") ∷
     can (codes "supportsDisassembleRequest") ∷
     can (codes "supportsEvaluateForHovers") ∷
     can (codes "supportsExceptionInfoRequest") ∷
     can (codes "supportsFunctionBreakpoints") ∷
+    can (codes "supportsGotoTargetsRequest") ∷
     can (codes "supportsLoadedSourcesRequest") ∷
     can (codes "supportsReadMemoryRequest") ∷
     can (codes "supportsRestartRequest") ∷
@@ -132,6 +160,7 @@ editor_body_json (body.Evaluation text) = evaluation_json text
 editor_body_json (body.Memory address bytes unreadable) = memory_json address bytes unreadable
 editor_body_json (body.Written count) = written_json count
 editor_body_json (body.Sources paths) = one_list (codes "sources") source_json paths
+editor_body_json (body.Targets target) = one_list (codes "targets") target_json (option_to_list target)
 
 -- ---- responses
 
@@ -152,10 +181,11 @@ response_json seq r = outcome_json seq r.request_seq r.command r.outcome
 
 -- ---- events
 
-abbrev pub entry_json : Data
-entry_json = object_of (
+-- a stop of which there is no more to say than why
+abbrev pub bare_stop_json : Text → Data
+bare_stop_json reason = object_of (
     (codes "allThreadsStopped", boolean true) ∷
-    (codes "reason", string (codes "entry")) ∷
+    (codes "reason", string reason) ∷
     (codes "threadId", whole_number 1) ∷ [])
 
 abbrev pub halted_json : Data
@@ -173,7 +203,8 @@ stopped_at_json u = object_of (
     (codes "threadId", whole_number 1) ∷ [])
 
 abbrev pub stopped_json : ℕ → EditorStop → Data
-stopped_json seq stop.Entry = event_with_body seq (codes "stopped") entry_json
+stopped_json seq stop.Entry = event_with_body seq (codes "stopped") (bare_stop_json (codes "entry"))
+stopped_json seq stop.Goto = event_with_body seq (codes "stopped") (bare_stop_json (codes "goto"))
 stopped_json seq stop.Halted = event_with_body seq (codes "stopped") halted_json
 stopped_json seq (stop.Exception u) = event_with_body seq (codes "stopped") (stopped_at_json u)
 stopped_json seq (stop.Board reason) = event_json seq (board.Stopped reason)

@@ -14,7 +14,6 @@ use Rattle.std.specs.Prelude.{
   option_and_then,
   codes,
 }
-use Rattle.base_text.specs.Bytes.{Text}
 use Rattle.serde_json.specs.Data.{Data, string}
 use Rattle.serde_json.specs.Find.{get, as_null}
 use Rattle.dap_answers.specs.Json.{object_of, whole_number}

@@ -1,37 +1,22 @@
 -- The commands of editors (Debug Adapter Protocol, "Requests"): how each is spelled, and what it asks for by
 -- its arguments.
-use Rattle.std.specs.Prelude.{
-  ◌≤◌,
-  length,
-  ℕ,
-  Bool,
-  true,
-  false,
-  not,
-  List,
-  [],
-  ◌∷◌,
-  Option,
-  Some,
-  option_map,
-  option_and_then,
-  find,
-  codes,
-}
+use Rattle.std.specs.Prelude.{ℕ, false, not, List, [], ◌∷◌, Option, Some, option_map, option_and_then}
+use Rattle.std.specs.Prelude.{find, codes}
 use Rattle.std.specs.Str.{bytes_eq}
-use Rattle.base_text.specs.Bytes.{Bytes, Text}
+use Rattle.base_text.specs.Bytes.{Text}
 use Rattle.serde_json.specs.Data.{Data}
 use Rattle.serde_json.specs.Find.{as_str, as_bool}
-use Rattle.dap_talk.specs.Argument.{whole_between}
+use Rattle.lab_shown.specs.declared.step.Granularity.TheVariants.{Line}
+use Rattle.dap_talk.specs.Argument.{text_at, whole_between}
 use Rattle.dap_editor.specs.declared.name.EditorName.{EditorName}
 use Rattle.dap_editor.specs.declared.name.EditorName.TheVariants as name
-use Rattle.dap_editor.specs.declared.request.Launch.{Launch}
 use Rattle.dap_editor.specs.declared.request.SignedOffset.{SignedOffset}
-use Rattle.dap_editor.specs.declared.request.SignedOffset.TheVariants.{Forward, Back}
+use Rattle.dap_editor.specs.declared.request.SignedOffset.TheVariants.{Forward}
 use Rattle.dap_editor.specs.declared.request.EvaluateContext.TheVariants.{Other}
 use Rattle.dap_editor.specs.declared.request.EditorCommand.{EditorCommand}
 use Rattle.dap_editor.specs.declared.request.EditorCommand.TheVariants as command
 use Rattle.dap_editor.specs.Argument.{required_argument, optional, address, shift, context, functions, base64}
+use Rattle.dap_editor.specs.Argument.{granularity, filters, no_filters}
 
 abbrev pub spelling_of : EditorName → Text
 spelling_of name.Initialize = codes "initialize"
@@ -46,6 +31,10 @@ spelling_of name.ReadMemory = codes "readMemory"
 spelling_of name.WriteMemory = codes "writeMemory"
 spelling_of name.Disassemble = codes "disassemble"
 spelling_of name.LoadedSources = codes "loadedSources"
+spelling_of name.StepBack = codes "stepBack"
+spelling_of name.ReverseContinue = codes "reverseContinue"
+spelling_of name.GotoTargets = codes "gotoTargets"
+spelling_of name.Goto = codes "goto"
 
 -- ---- what each asks for
 
@@ -56,6 +45,9 @@ a then_with f = option_and_then f a
 
 abbrev pub byte : Data → Option ℕ
 byte = whole_between 0 255
+
+abbrev pub word : Data → Option ℕ
+word = whole_between 0 65535
 
 abbrev pub any_number : Data → Option ℕ
 any_number = whole_between 0 4294967295
@@ -81,6 +73,7 @@ launch_asked d =
     optional (codes "noDebug") as_bool false d then_with λ only_runs.
     optional (codes "aliases") as_bool false d then_with λ has_aliases.
     optional (codes "switches") byte 0 d then_with λ switches.
+    optional (codes "input") as_str [] d then_with λ input.
     Some (command.Launch (record {
       program = program;
       stops_on_entry = stops_on_entry;
@@ -88,6 +81,7 @@ launch_asked d =
       is_debugged = not only_runs;
       has_aliases = has_aliases;
       switches = switches;
+      input = input;
     }))
 
 abbrev pub evaluate_asked : Data → Option EditorCommand
@@ -118,6 +112,12 @@ disassemble_asked d =
     required_argument (codes "instructionCount") (whole_between 1 1024) d then_with λ count.
     Some (command.Disassemble from bytes instructions count)
 
+abbrev pub goto_targets_asked : Data → Option EditorCommand
+goto_targets_asked d =
+    required_argument (codes "source") (text_at (codes "path")) d then_with λ path.
+    required_argument (codes "line") any_number d then_with λ line.
+    Some (command.GotoTargets path line)
+
 -- the command that a request makes with this name, if its arguments are as they must be
 abbrev pub command_asked : EditorName → Data → Option EditorCommand
 command_asked name.Initialize d = initialize_asked d
@@ -126,13 +126,19 @@ command_asked name.Restart d = Some command.Restart
 command_asked name.Terminate d = Some command.Terminate
 command_asked name.SetFunctionBreakpoints d =
     option_map command.SetFunctionBreakpoints (required_argument (codes "breakpoints") functions d)
-command_asked name.SetExceptionBreakpoints d = Some command.SetExceptionBreakpoints
+command_asked name.SetExceptionBreakpoints d =
+    option_map command.SetExceptionBreakpoints (optional (codes "filters") filters no_filters d)
 command_asked name.ExceptionInfo d = Some command.ExceptionInfo
 command_asked name.Evaluate d = evaluate_asked d
 command_asked name.ReadMemory d = read_memory_asked d
 command_asked name.WriteMemory d = write_memory_asked d
 command_asked name.Disassemble d = disassemble_asked d
 command_asked name.LoadedSources d = Some command.LoadedSources
+command_asked name.StepBack d =
+    option_map command.StepBack (optional (codes "granularity") granularity Line d)
+command_asked name.ReverseContinue d = Some command.ReverseContinue
+command_asked name.GotoTargets d = goto_targets_asked d
+command_asked name.Goto d = option_map command.Goto (required_argument (codes "targetId") word d)
 
 -- ---- the names
 
@@ -140,7 +146,8 @@ abbrev pub every_name : List EditorName
 every_name =
     name.Initialize ∷ name.Launch ∷ name.Restart ∷ name.Terminate ∷ name.SetFunctionBreakpoints ∷
     name.SetExceptionBreakpoints ∷ name.ExceptionInfo ∷ name.Evaluate ∷ name.ReadMemory ∷ name.WriteMemory ∷
-    name.Disassemble ∷ name.LoadedSources ∷ []
+    name.Disassemble ∷ name.LoadedSources ∷ name.StepBack ∷ name.ReverseContinue ∷ name.GotoTargets ∷
+    name.Goto ∷ []
 
 -- the first of these names that is spelled like the text
 abbrev pub first_named : List EditorName → Text → Option EditorName

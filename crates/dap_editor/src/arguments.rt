@@ -1,22 +1,26 @@
 //! The arguments of an editor's request, one function for each type.
-ghost use Rattle.std.specs.Prelude.{◌≡◌, ◌≤◌, IfOk, IfSome, false, length, option_map, option_and_then};
+ghost use Rattle.std.specs.Prelude.{◌≡◌, ◌≤◌, IfOk, IfSome, [], false, length, option_map, option_and_then};
+ghost use Rattle.std.specs.Prelude.{codes};
 ghost use Rattle.serde_json.specs.Find.{as_str, as_bool, as_array};
 ghost use Rattle.serde_json.specs.View.{view, items_view};
-ghost use Rattle.dap_talk.specs.Argument.{whole_between, at_most_256};
+ghost use Rattle.lab_shown.specs.declared.step.Granularity.TheVariants.{Line};
+ghost use Rattle.dap_talk.specs.Argument.{text_at, whole_between, at_most_256};
 ghost use Rattle.dap_editor.specs.Answer.{Answers};
 ghost use Rattle.dap_editor.specs.Argument.{required_argument, optional, address, IsBackWithin};
 ghost use Rattle.dap_editor.specs.Argument.{shift_within, shift};
-ghost use Rattle.dap_editor.specs.Argument.{context, is_unconditional, function_of, functions_of};
+ghost use Rattle.dap_editor.specs.Argument.{context, granularity, is_text, has_text, filters, no_filters};
+ghost use Rattle.dap_editor.specs.Argument.{is_unconditional, function_of, functions_of};
 ghost use Rattle.dap_editor.specs.Argument.{breakpoints, functions, bytes_of, base64};
-ghost use Rattle.dap_editor.specs.Table.{byte, any_number, offset, memory_reference};
+ghost use Rattle.dap_editor.specs.Table.{byte, word, any_number, offset, memory_reference};
 
-use crate::request::{EvaluateContext, SignedOffset};
+use crate::request::{EvaluateContext, ExceptionFilters, SignedOffset};
 use base_text::sequence::{Bytes, Sequence};
 use base_text::text::Text;
 use base64::DecodeAllocError;
 use base64::engine::general_purpose::STANDARD;
-use dap_talk::arguments::{ArgumentFault, address_of, argument_at, whole_between};
+use dap_talk::arguments::{self, ArgumentFault, address_of, argument_at, whole_between};
 use dap_talk::members;
+use lab_shown::step::Granularity;
 use serde_json::Value;
 use std::alloc::Global;
 
@@ -25,6 +29,24 @@ pub fn text_at<'a>(request: &'a Value, key: &str) -> Option<&'a str>
     ensures { option_map (λ t. t.now) result ≡ required_argument key.now as_str (view request.now) }
 {
     argument_at(request, key)??.as_str()
+}
+
+/// A text, and an empty one if it is absent.
+pub fn text_or_empty<'a>(request: &'a Value, key: &str) -> Option<&'a str>
+    ensures { option_map (λ t. t.now) result ≡ optional key.now as_str [] (view request.now) }
+{
+    match argument_at(request, key)? {
+        None => Some(""),
+        Some(value) => value.as_str(),
+    }
+}
+
+/// The path of the required source.
+pub fn source_path(request: &Value) -> Option<&str>
+    ensures { option_map (λ t. t.now) result
+        ≡ required_argument (codes "source") (text_at (codes "path")) (view request.now) }
+{
+    members::text_at(argument_at(request, "source")??, "path")
 }
 
 /// `true` or `false`, and `false` if it is absent.
@@ -52,6 +74,13 @@ pub fn number_at(request: &Value, key: &str) -> Option<u32>
     ensures { result ≡ required_argument key.now any_number (view request.now) }
 {
     whole_between(argument_at(request, key)??, 0, u32::MAX)
+}
+
+/// A required whole number of 16 bits.
+pub fn word_at(request: &Value, key: &str) -> Option<u16>
+    ensures { result ≡ required_argument key.now word (view request.now) }
+{
+    u16::try_from(whole_between(argument_at(request, key)??, 0, 65535)?).ok()
 }
 
 /// A required whole number from 1 to 1,024.
@@ -122,6 +151,57 @@ pub fn context_or_other(request: &Value, key: &str) -> Option<EvaluateContext>
     match argument_at(request, key)? {
         None => Some(EvaluateContext::Other),
         Some(value) => context_of(value),
+    }
+}
+
+/// A granularity, as `next` has one.
+#[tactic(auto, using(crate::proofs::GranularityLemmas::granularity_found))]
+pub fn granularity(request: &Value) -> Option<Granularity>
+    ensures { result ≡ optional (codes "granularity") granularity Line (view request.now) }
+{
+    arguments::granularity_or_line(request, "granularity")
+}
+
+fn is_text(value: &Value, text: &str) -> bool
+    ensures { result ≡ is_text text.now (view value.now) }
+{
+    match value.as_str() {
+        None => false,
+        Some(other) => other == text,
+    }
+}
+
+fn has_text(values: &[Value], text: &str) -> bool
+    ensures { result ≡ has_text text.now (items_view values.now) }
+{
+    for value in values {
+        if is_text(value, text) {
+            return true;
+        }
+    }
+    false
+}
+
+fn filters_of(value: &Value) -> Option<ExceptionFilters>
+    ensures { result ≡ filters (view value.now) }
+{
+    let filters = value.as_array()?.as_slice();
+    Some(ExceptionFilters {
+        undefined: has_text(filters, "undefined"),
+        halt: has_text(filters, "halt"),
+    })
+}
+
+/// The filters of ends, and none if they are absent.
+pub fn filters_or_none(request: &Value) -> Option<ExceptionFilters>
+    ensures { result ≡ optional (codes "filters") filters no_filters (view request.now) }
+{
+    match argument_at(request, "filters")? {
+        None => Some(ExceptionFilters {
+            undefined: false,
+            halt: false,
+        }),
+        Some(value) => filters_of(value),
     }
 }
 

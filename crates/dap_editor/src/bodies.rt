@@ -1,15 +1,16 @@
 //! The JSON of bodies.
-ghost use Rattle.std.specs.Prelude.{◌≡◌, ◌∷◌, IfOk, codes};
+ghost use Rattle.std.specs.Prelude.{◌≡◌, ◌∷◌, IfOk, codes, option_to_list};
 ghost use Rattle.serde_json.specs.Data.{string};
 ghost use Rattle.serde_json.specs.View.{view};
 ghost use Rattle.dap_answers.specs.Object.{HasMembers};
 ghost use Rattle.dap_answers.specs.Json.{members_from, list_of, one_list, reference};
 ghost use Rattle.dap_editor.specs.Json.{placed_json, last_part, source_json, base64_text};
-ghost use Rattle.dap_editor.specs.Json.{data_members, capabilities_json, evaluation_json};
+ghost use Rattle.dap_editor.specs.Json.{data_members, filter_json, filters_json, capabilities_json};
+ghost use Rattle.dap_editor.specs.Json.{target_json, evaluation_json};
 ghost use Rattle.dap_editor.specs.Json.{exception_text, exception_json};
 ghost use Rattle.dap_editor.specs.Json.{memory_json, written_json, editor_body_json};
 
-use crate::message::{EditorBody, PlacedBreakpoint, UndefinedOpcode};
+use crate::message::{EditorBody, GotoTarget, PlacedBreakpoint, UndefinedOpcode};
 use base_text::hexadecimal::{push_byte, push_word};
 use base_text::text::Text;
 use base64::engine::general_purpose::STANDARD;
@@ -19,15 +20,39 @@ use dap_answers::object::Object;
 use serde_json::Value;
 use std::alloc::{AllocError, Global};
 
+fn filter(alloc: Global, name: &str, label: &str, is_default: bool) -> Result<Value, AllocError>
+    ensures { IfOk result (λ v. view v ≡ filter_json name.now label.now is_default) }
+{
+    Object::new(alloc)
+        .flag("default", is_default)
+        .text("filter", name)
+        .text("label", label)
+        .finish()
+}
+
+fn filters(alloc: Global) -> Result<Value, AllocError>
+    ensures { IfOk result (λ v. view v ≡ filters_json) }
+{
+    let undefined = filter(alloc, "undefined", "Undefined opcodes", true)?;
+    let halt = filter(alloc, "halt", "HLT", false)?;
+    let mut filters = Vec::new(alloc);
+    filters.push(undefined)?;
+    filters.push(halt)?;
+    Ok(Value::from(filters))
+}
+
 fn capabilities(alloc: Global) -> Result<Value, AllocError>
     ensures { IfOk result (λ v. view v ≡ capabilities_json) }
 {
+    let filters = filters(alloc)?;
     Object::new(alloc)
+        .value("exceptionBreakpointFilters", filters)
         .flag("supportsConfigurationDoneRequest", true)
         .flag("supportsDisassembleRequest", true)
         .flag("supportsEvaluateForHovers", true)
         .flag("supportsExceptionInfoRequest", true)
         .flag("supportsFunctionBreakpoints", true)
+        .flag("supportsGotoTargetsRequest", true)
         .flag("supportsLoadedSourcesRequest", true)
         .flag("supportsReadMemoryRequest", true)
         .flag("supportsRestartRequest", true)
@@ -168,6 +193,35 @@ fn written(alloc: Global, count: u32) -> Result<Value, AllocError>
         .finish()
 }
 
+impl ToJson for GotoTarget {
+    ghost json = { target_json };
+
+    fn to_json(&self, alloc: Global) -> Result<Value, AllocError> {
+        let mut label = String::new(alloc);
+        push_word(&mut label, self.address)?;
+        let reference = reference(alloc, self.address)?;
+        Object::new(alloc)
+            .number("id", u64::from(self.address))
+            .value("instructionPointerReference", reference)
+            .text("label", label.as_str())
+            .number("line", u64::from(self.line))
+            .finish()
+    }
+}
+
+fn targets(alloc: Global, target: Option<GotoTarget>) -> Result<Value, AllocError>
+    ensures { IfOk result (λ v. view v
+        ≡ one_list (codes "targets") target_json (option_to_list target)) }
+{
+    let mut targets = Vec::new(alloc);
+    if let Some(target) = target {
+        targets.push(target.to_json(alloc)?)?;
+    }
+    Object::new(alloc)
+        .value("targets", Value::from(targets))
+        .finish()
+}
+
 /// The JSON of a body.
 pub fn editor_body_json(alloc: Global, body: &EditorBody) -> Result<Value, AllocError>
     ensures { IfOk result (λ v. view v ≡ editor_body_json body.now) }
@@ -185,5 +239,6 @@ pub fn editor_body_json(alloc: Global, body: &EditorBody) -> Result<Value, Alloc
         } => memory(alloc, *address, bytes.as_slice(), *unreadable),
         EditorBody::Written(count) => written(alloc, *count),
         EditorBody::Sources(paths) => sources(alloc, paths.as_slice()),
+        EditorBody::Targets(target) => targets(alloc, *target),
     }
 }

@@ -5,7 +5,7 @@ ghost use Rattle.serde_json.specs.View.{view};
 ghost use Rattle.dap_answers.specs.Json.{object_of, list_of};
 ghost use Rattle.dap_answers.specs.Object.{HasMembers};
 ghost use Rattle.dap_answers.specs.Json.{members_from};
-ghost use Rattle.dap_editor.specs.Json.{entry_json, halted_json, stopped_at_json, stopped_json};
+ghost use Rattle.dap_editor.specs.Json.{bare_stop_json, halted_json, stopped_at_json, stopped_json};
 ghost use Rattle.dap_editor.specs.Json.{bare_output, placed_output};
 ghost use Rattle.dap_editor.specs.Json.{invalidated_json, memory_changed_json};
 ghost use Rattle.dap_editor.specs.Json.{output_json, changed_json, exited_json, editor_event_json};
@@ -37,11 +37,11 @@ impl OutputCategory {
     }
 }
 
-fn entry_body(alloc: Global) -> Result<Value, AllocError>
-    ensures { IfOk result (λ v. view v ≡ entry_json) }
+fn bare_stop(alloc: Global, reason: &str) -> Result<Value, AllocError>
+    ensures { IfOk result (λ v. view v ≡ bare_stop_json reason.now) }
 {
     Object::new(alloc)
-        .text("reason", "entry")
+        .text("reason", reason)
         .number("threadId", 1)
         .flag("allThreadsStopped", true)
         .finish()
@@ -74,7 +74,8 @@ fn stopped(alloc: Global, seq: u64, reason: EditorStop) -> Result<Value, AllocEr
     ensures { IfOk result (λ v. view v ≡ stopped_json seq reason) }
 {
     match reason {
-        EditorStop::Entry => event_with_body(alloc, seq, "stopped", entry_body(alloc)?),
+        EditorStop::Entry => event_with_body(alloc, seq, "stopped", bare_stop(alloc, "entry")?),
+        EditorStop::Goto => event_with_body(alloc, seq, "stopped", bare_stop(alloc, "goto")?),
         EditorStop::Halted => event_with_body(alloc, seq, "stopped", halted_body(alloc)?),
         EditorStop::Exception(undefined) => {
             event_with_body(alloc, seq, "stopped", stopped_at_body(alloc, undefined)?)

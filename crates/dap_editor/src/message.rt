@@ -19,6 +19,14 @@ pub struct UndefinedOpcode {
     pub pc: u16,
 }
 
+/// A line of the program to which PC can be set.
+#[derive(Clone, Copy)]
+pub struct GotoTarget {
+    /// Where its first statement begins; this is also its number.
+    pub address: u16,
+    pub line: u32,
+}
+
 /// The body of a successful response.
 #[derive(Drop)]
 pub enum EditorBody {
@@ -26,7 +34,7 @@ pub enum EditorBody {
     Board(Body),
     /// Of `initialize`: what this debugger supports.
     Capabilities,
-    /// Of `setBreakpoints`, `setFunctionBreakpoints` and `setExceptionBreakpoints`.
+    /// Of `setBreakpoints` and `setFunctionBreakpoints`.
     Breakpoints(Sequence<PlacedBreakpoint>),
     /// Of `exceptionInfo`.
     Exception(UndefinedOpcode),
@@ -42,6 +50,8 @@ pub enum EditorBody {
     Written(u32),
     /// Of `loadedSources`: their paths.
     Sources(Sequence<Text>),
+    /// Of `gotoTargets`: at most one.
+    Targets(Option<GotoTarget>),
 }
 
 /// The outcome of a request.
@@ -69,6 +79,8 @@ pub enum EditorStop {
     Halted,
     /// At its end, before an undefined opcode.
     Exception(UndefinedOpcode),
+    /// Where PC was set.
+    Goto,
     Board(StopReason),
 }
 

@@ -17,9 +17,13 @@ pub enum EditorName {
     WriteMemory,
     Disassemble,
     LoadedSources,
+    StepBack,
+    ReverseContinue,
+    GotoTargets,
+    Goto,
 }
 
-const EVERY_NAME: [EditorName; 12] = [
+const EVERY_NAME: [EditorName; 16] = [
     EditorName::Initialize,
     EditorName::Launch,
     EditorName::Restart,
@@ -32,6 +36,10 @@ const EVERY_NAME: [EditorName; 12] = [
     EditorName::WriteMemory,
     EditorName::Disassemble,
     EditorName::LoadedSources,
+    EditorName::StepBack,
+    EditorName::ReverseContinue,
+    EditorName::GotoTargets,
+    EditorName::Goto,
 ];
 
 impl EditorName {
@@ -54,6 +62,10 @@ impl EditorName {
             EditorName::WriteMemory => "writeMemory",
             EditorName::Disassemble => "disassemble",
             EditorName::LoadedSources => "loadedSources",
+            EditorName::StepBack => "stepBack",
+            EditorName::ReverseContinue => "reverseContinue",
+            EditorName::GotoTargets => "gotoTargets",
+            EditorName::Goto => "goto",
         }
     }
 

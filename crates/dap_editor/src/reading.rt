@@ -4,14 +4,15 @@ ghost use Rattle.serde_json.specs.View.{view};
 ghost use Rattle.dap_talk.specs.Reading.{envelope_of, envelope_with, reading};
 ghost use Rattle.dap_editor.specs.Answer.{Answers};
 ghost use Rattle.dap_editor.specs.Table.{command_named, command_asked, launch_asked, evaluate_asked};
-ghost use Rattle.dap_editor.specs.Table.{initialize_asked, read_memory_asked};
+ghost use Rattle.dap_editor.specs.Table.{initialize_asked, read_memory_asked, goto_targets_asked};
 ghost use Rattle.dap_editor.specs.Table.{write_memory_asked, disassemble_asked};
 ghost use Rattle.dap_editor.specs.Reading.{has_null_arguments, bare_request, asked_of_board, asked_of_editor};
 ghost use Rattle.dap_editor.specs.Reading.{asked_by, unreadable, editor_request, IsCommandBounded, IsBounded};
 
 use crate::arguments::{
-    byte_or_0, bytes_at, context_or_other, count_at, functions_at, memory_reference, number_at,
-    offset, shift_or_0, text_at, truth_or_false,
+    byte_or_0, bytes_at, context_or_other, count_at, filters_or_none, functions_at, granularity,
+    memory_reference, number_at, offset, shift_or_0, source_path, text_at, text_or_empty,
+    truth_or_false, word_at,
 };
 use crate::name::EditorName;
 use crate::request::{
@@ -47,7 +48,9 @@ fn launch(alloc: Global, request: &Value) -> Result<EditorCommand, ArgumentFault
     let only_runs = truth_or_false(request, "noDebug").ok_or(ArgumentFault::Arguments)?;
     let has_aliases = truth_or_false(request, "aliases").ok_or(ArgumentFault::Arguments)?;
     let switches = byte_or_0(request, "switches").ok_or(ArgumentFault::Arguments)?;
+    let input = text_or_empty(request, "input").ok_or(ArgumentFault::Arguments)?;
     let program = Text::copy_of(alloc, program)?;
+    let input = Text::copy_of(alloc, input)?;
     Ok(EditorCommand::Launch(Launch {
         program,
         stops_on_entry,
@@ -55,6 +58,7 @@ fn launch(alloc: Global, request: &Value) -> Result<EditorCommand, ArgumentFault
         is_debugged: !only_runs,
         has_aliases,
         switches,
+        input,
     }))
 }
 
@@ -64,6 +68,38 @@ fn set_function_breakpoints(alloc: Global, request: &Value) -> Result<EditorComm
 {
     let names = functions_at(alloc, request, "breakpoints")?;
     Ok(EditorCommand::SetFunctionBreakpoints(names))
+}
+
+fn set_exception_breakpoints(request: &Value) -> Option<EditorCommand>
+    ensures value { result ≡ command_asked EditorName.SetExceptionBreakpoints (view request.now) }
+    ensures bounded { IfSome result (λ c. IsCommandBounded c) }
+{
+    Some(EditorCommand::SetExceptionBreakpoints(filters_or_none(request)?))
+}
+
+fn step_back(request: &Value) -> Option<EditorCommand>
+    ensures value { result ≡ command_asked EditorName.StepBack (view request.now) }
+    ensures bounded { IfSome result (λ c. IsCommandBounded c) }
+{
+    Some(EditorCommand::StepBack(granularity(request)?))
+}
+
+fn goto_targets(alloc: Global, request: &Value) -> Result<EditorCommand, ArgumentFault>
+    ensures answer { Answers (goto_targets_asked (view request.now)) result }
+    ensures bounded { IfOk result (λ c. IsCommandBounded c) }
+{
+    let path = source_path(request).ok_or(ArgumentFault::Arguments)?;
+    let line = number_at(request, "line").ok_or(ArgumentFault::Arguments)?;
+    let path = Text::copy_of(alloc, path)?;
+    Ok(EditorCommand::GotoTargets { path, line })
+}
+
+fn goto(request: &Value) -> Option<EditorCommand>
+    ensures value { result ≡ command_asked EditorName.Goto (view request.now) }
+    ensures bounded { IfSome result (λ c. IsCommandBounded c) }
+{
+    let target = word_at(request, "targetId")?;
+    Some(EditorCommand::Goto { target })
 }
 
 fn evaluate(alloc: Global, request: &Value) -> Result<EditorCommand, ArgumentFault>
@@ -144,13 +180,17 @@ fn read_command(
         EditorName::Restart => Ok(EditorCommand::Restart),
         EditorName::Terminate => Ok(EditorCommand::Terminate),
         EditorName::SetFunctionBreakpoints => set_function_breakpoints(alloc, request),
-        EditorName::SetExceptionBreakpoints => Ok(EditorCommand::SetExceptionBreakpoints),
+        EditorName::SetExceptionBreakpoints => or_refused(set_exception_breakpoints(request)),
         EditorName::ExceptionInfo => Ok(EditorCommand::ExceptionInfo),
         EditorName::Evaluate => evaluate(alloc, request),
         EditorName::ReadMemory => or_refused(read_memory(request)),
         EditorName::WriteMemory => write_memory(alloc, request),
         EditorName::Disassemble => or_refused(disassemble(request)),
         EditorName::LoadedSources => Ok(EditorCommand::LoadedSources),
+        EditorName::StepBack => or_refused(step_back(request)),
+        EditorName::ReverseContinue => Ok(EditorCommand::ReverseContinue),
+        EditorName::GotoTargets => goto_targets(alloc, request),
+        EditorName::Goto => or_refused(goto(request)),
     }
 }
 

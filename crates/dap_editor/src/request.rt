@@ -2,6 +2,7 @@
 use base_text::sequence::{Bytes, Sequence};
 use base_text::text::Text;
 use dap_talk::command::DapCommand;
+use lab_shown::step::Granularity;
 
 /// A signed offset, in bytes or in instructions.
 #[derive(Clone, Copy)]
@@ -40,6 +41,17 @@ pub struct Launch {
     pub has_aliases: bool,
     /// The front panel's eight switches.
     pub switches: u8,
+    /// What is typed on the board's keyboard before the program's first step.
+    pub input: Text,
+}
+
+/// The ends of a run at which an editor wants it held (Debug Adapter Protocol, `setExceptionBreakpoints`).
+#[derive(Clone, Copy)]
+pub struct ExceptionFilters {
+    /// An undefined opcode.
+    pub undefined: bool,
+    /// HLT with interrupts off.
+    pub halt: bool,
 }
 
 /// A command that only editors have, or that has more arguments for them than for the kernel.
@@ -51,7 +63,7 @@ pub enum EditorCommand {
     Terminate,
     /// The labels at which to set breakpoints, at most 256, in the order of the request.
     SetFunctionBreakpoints(Sequence<Text>),
-    SetExceptionBreakpoints,
+    SetExceptionBreakpoints(ExceptionFilters),
     ExceptionInfo,
     Evaluate {
         expression: Text,
@@ -78,6 +90,17 @@ pub enum EditorCommand {
         instruction_count: u16,
     },
     LoadedSources,
+    /// Back by one place.
+    StepBack(Granularity),
+    ReverseContinue,
+    GotoTargets {
+        path: Text,
+        line: u32,
+    },
+    /// To the address that is the number of a target.
+    Goto {
+        target: u16,
+    },
 }
 
 /// Why a request can't be carried out, whatever the program is.

@@ -4,8 +4,8 @@ use base_text::text::Text;
 use dap_answers::answer::{Body, StopReason};
 use dap_editor::json::message_json;
 use dap_editor::message::{
-    EditorBody, EditorEvent, EditorOutcome, EditorResponse, EditorStop, Message, OutputCategory,
-    PlacedBreakpoint, SourcePlace, UndefinedOpcode,
+    EditorBody, EditorEvent, EditorOutcome, EditorResponse, EditorStop, GotoTarget, Message,
+    OutputCategory, PlacedBreakpoint, SourcePlace, UndefinedOpcode,
 };
 use std::alloc::{AllocError, Global};
 
@@ -22,6 +22,8 @@ enum Shape {
     Memory(u16, &'static [u8], u32),
     Written(u32),
     Sources(&'static [&'static str]),
+    // Address and line.
+    Targets(Option<(u16, u32)>),
 }
 
 fn placed(row: (u32, Option<u32>, bool)) -> PlacedBreakpoint {
@@ -55,6 +57,11 @@ fn texts(alloc: Global, rows: &[&str]) -> Result<Sequence<Text>, AllocError> {
     Ok(list)
 }
 
+fn target(row: Option<(u16, u32)>) -> Option<GotoTarget> {
+    let (address, line) = row?;
+    Some(GotoTarget { address, line })
+}
+
 fn body(alloc: Global, shape: &Shape) -> Result<EditorBody, AllocError> {
     match shape {
         Shape::Threads => Ok(EditorBody::Board(Body::Threads)),
@@ -69,6 +76,7 @@ fn body(alloc: Global, shape: &Shape) -> Result<EditorBody, AllocError> {
         }),
         Shape::Written(count) => Ok(EditorBody::Written(*count)),
         Shape::Sources(paths) => Ok(EditorBody::Sources(texts(alloc, paths)?)),
+        Shape::Targets(row) => Ok(EditorBody::Targets(target(*row))),
     }
 }
 
@@ -92,14 +100,16 @@ fn is_written(alloc: Global, message: &Message, json: &str) -> Result<bool, Allo
     Ok(text?.as_str() == json)
 }
 
-const BODIES: [(Shape, &str); 13] = [
+const BODIES: [(Shape, &str); 15] = [
     (Shape::Threads, r#"{"threads":[{"id":1,"name":"8080"}]}"#),
     (
         Shape::Capabilities,
         concat!(
-            r#"{"supportsConfigurationDoneRequest":true,"supportsDisassembleRequest":true,"#,
+            r#"{"exceptionBreakpointFilters":[{"default":true,"filter":"undefined","#,
+            r#""label":"Undefined opcodes"},{"default":false,"filter":"halt","label":"HLT"}],"#,
+            r#""supportsConfigurationDoneRequest":true,"supportsDisassembleRequest":true,"#,
             r#""supportsEvaluateForHovers":true,"supportsExceptionInfoRequest":true,"#,
-            r#""supportsFunctionBreakpoints":true,"#,
+            r#""supportsFunctionBreakpoints":true,"supportsGotoTargetsRequest":true,"#,
             r#""supportsLoadedSourcesRequest":true,"supportsReadMemoryRequest":true,"#,
             r#""supportsRestartRequest":true,"supportsSetVariable":true,"#,
             r#""supportsSteppingGranularity":true,"supportsTerminateRequest":true,"#,
@@ -142,6 +152,14 @@ const BODIES: [(Shape, &str); 13] = [
         concat!(
             r#"{"sources":[{"name":"a.asm","path":"/home/u/a.asm"},{"name":"b.asm","path":"b.asm"},"#,
             r#"{"name":"","path":"c/"}]}"#,
+        ),
+    ),
+    (Shape::Targets(None), r#"{"targets":[]}"#),
+    (
+        Shape::Targets(Some((0x01af, 12))),
+        concat!(
+            r#"{"targets":[{"id":431,"instructionPointerReference":"0x01af","label":"01AF","#,
+            r#""line":12}]}"#,
         ),
     ),
 ];
@@ -245,11 +263,16 @@ fn event(alloc: Global, told: &Told) -> Result<EditorEvent, AllocError> {
     }
 }
 
-const EVENTS: [(Told, &str, &str); 16] = [
+const EVENTS: [(Told, &str, &str); 17] = [
     (Told::Initialized, "", "initialized"),
     (
         Told::Stopped(EditorStop::Entry),
         r#""body":{"allThreadsStopped":true,"reason":"entry","threadId":1},"#,
+        "stopped",
+    ),
+    (
+        Told::Stopped(EditorStop::Goto),
+        r#""body":{"allThreadsStopped":true,"reason":"goto","threadId":1},"#,
         "stopped",
     ),
     (

@@ -2,9 +2,10 @@
 use base_text::text::Text;
 use dap_editor::reading::read_editor_request;
 use dap_editor::request::{
-    EditorCommand, EditorRequest, EvaluateContext, Launch, RequestContent, RequestFault,
-    SignedOffset, SupportedEvents,
+    EditorCommand, EditorRequest, EvaluateContext, ExceptionFilters, Launch, RequestContent,
+    RequestFault, SignedOffset, SupportedEvents,
 };
+use lab_shown::step::Granularity;
 use serde_json::Value;
 use std::alloc::{AllocError, Global};
 use std::test::Fail;
@@ -28,6 +29,33 @@ fn put_supported(told: &mut String, supported: SupportedEvents) -> Result<(), Al
     Ok(())
 }
 
+// Adds what is typed, if there is something.
+fn put_input(told: &mut String, input: &str) -> Result<(), AllocError> {
+    if !input.is_empty() {
+        write!(told, " [{input}]")?;
+    }
+    Ok(())
+}
+
+fn put_filters(told: &mut String, filters: ExceptionFilters) -> Result<(), AllocError> {
+    let undefined = truth_word(filters.undefined);
+    let halt = truth_word(filters.halt);
+    write!(told, "exceptions {undefined} {halt}")?;
+    Ok(())
+}
+
+fn granularity_word(granularity: Granularity) -> &'static str {
+    match granularity {
+        Granularity::Line => "back by line",
+        Granularity::Instruction => "back by instruction",
+    }
+}
+
+fn put_target_line(told: &mut String, path: &str, line: u32) -> Result<(), AllocError> {
+    write!(told, "targets {path} {line}")?;
+    Ok(())
+}
+
 fn put_launch(told: &mut String, launch: &Launch) -> Result<(), AllocError> {
     let program = launch.program.as_str();
     let entry = truth_word(launch.stops_on_entry);
@@ -39,7 +67,7 @@ fn put_launch(told: &mut String, launch: &Launch) -> Result<(), AllocError> {
         told,
         "launch {program} {entry} {end} {debugged} {aliases} {switches}"
     )?;
-    Ok(())
+    put_input(told, launch.input.as_str())
 }
 
 fn put_names(told: &mut String, names: &[Text]) -> Result<(), AllocError> {
@@ -120,6 +148,20 @@ fn put_memory(told: &mut String, command: &EditorCommand) -> Result<(), AllocErr
     Ok(())
 }
 
+// Adds a command that moves PC by no step forward.
+fn put_travel(told: &mut String, command: &EditorCommand) -> Result<(), AllocError> {
+    match command {
+        EditorCommand::StepBack(granularity) => told.push_str(granularity_word(*granularity)),
+        EditorCommand::ReverseContinue => told.push_str("back"),
+        EditorCommand::GotoTargets { path, line } => put_target_line(told, path.as_str(), *line),
+        EditorCommand::Goto { target } => {
+            write!(told, "goto {target}")?;
+            Ok(())
+        }
+        _ => Ok(()),
+    }
+}
+
 fn put_command(told: &mut String, command: &EditorCommand) -> Result<(), AllocError> {
     match command {
         EditorCommand::Initialize(supported) => put_supported(told, *supported),
@@ -127,13 +169,17 @@ fn put_command(told: &mut String, command: &EditorCommand) -> Result<(), AllocEr
         EditorCommand::Restart => told.push_str("restart"),
         EditorCommand::Terminate => told.push_str("terminate"),
         EditorCommand::SetFunctionBreakpoints(names) => put_names(told, names.as_slice()),
-        EditorCommand::SetExceptionBreakpoints => told.push_str("exceptions"),
+        EditorCommand::SetExceptionBreakpoints(filters) => put_filters(told, *filters),
         EditorCommand::ExceptionInfo => told.push_str("exception"),
         EditorCommand::Evaluate {
             expression,
             context,
         } => put_evaluation(told, expression, *context),
         EditorCommand::LoadedSources => told.push_str("sources"),
+        EditorCommand::StepBack(_)
+        | EditorCommand::ReverseContinue
+        | EditorCommand::GotoTargets { .. }
+        | EditorCommand::Goto { .. } => put_travel(told, command),
         _ => put_memory(told, command),
     }
 }
@@ -197,9 +243,41 @@ launch {"program":"a","switches":1.0} -> Arguments
 launch {"program":"a","noDebug":null} -> Arguments
 launch {"stopOnEntry":true} -> Arguments
 launch null -> Arguments
+launch {"program":"a","input":"h\u0069 \"8080\""} -> launch a false false true false 0 [hi "8080"]
+launch {"program":"a","input":""} -> launch a false false true false 0
+launch {"program":"a","input":7} -> Arguments
+launch {"program":"a","input":null} -> Arguments
 restart 3 -> restart
 terminate null -> terminate
-setExceptionBreakpoints {"filters":[]} -> exceptions
+setExceptionBreakpoints {"filters":[]} -> exceptions false false
+setExceptionBreakpoints null -> exceptions false false
+setExceptionBreakpoints {"filters":["halt"]} -> exceptions false true
+setExceptionBreakpoints {"filters":[3,"undefined","Halt",null,"other"]} -> exceptions true false
+setExceptionBreakpoints {"filters":["halt","halt","undefined"]} -> exceptions true true
+setExceptionBreakpoints {"filters":"halt"} -> Arguments
+setExceptionBreakpoints {"filters":null} -> Arguments
+stepBack {"threadId":1} -> back by line
+stepBack null -> back by line
+stepBack {"threadId":1,"granularity":"statement"} -> back by line
+stepBack {"threadId":"x","granularity":"instruction"} -> back by instruction
+stepBack {"threadId":1,"granularity":"line"} -> back by line
+stepBack {"threadId":1,"granularity":2} -> Arguments
+reverseContinue {"threadId":1} -> back
+reverseContinue null -> back
+gotoTargets {"source":{"path":"a.asm"},"line":12,"column":3} -> targets a.asm 12
+gotoTargets {"source":{"path":""},"line":0} -> targets  0
+gotoTargets {"source":{"name":"a.asm"},"line":12} -> Arguments
+gotoTargets {"source":"a.asm","line":12} -> Arguments
+gotoTargets {"source":{"path":"a.asm"}} -> Arguments
+gotoTargets {"source":{"path":"a.asm"},"line":-1} -> Arguments
+gotoTargets {"source":{"path":"a.asm"},"line":4294967296} -> Arguments
+gotoTargets {"line":12} -> Arguments
+goto {"threadId":1,"targetId":65535} -> goto 65535
+goto {"targetId":0} -> goto 0
+goto {"threadId":1,"targetId":65536} -> Arguments
+goto {"threadId":1,"targetId":-1} -> Arguments
+goto {"threadId":1} -> Arguments
+goto null -> Arguments
 exceptionInfo {"threadId":1} -> exception
 exceptionInfo null -> exception
 loadedSources {} -> sources

@@ -1,12 +1,13 @@
 -- How far a program is, and what its run's end makes of it (Debug Adapter Protocol, `terminated`).
-use Rattle.std.specs.Prelude.{Bool, true, false, not, ◌&&◌, Option, Some, None, option_and_then}
-use Rattle.std.specs.Prelude.{if◌then◌else◌}
+use Rattle.std.specs.Prelude.{Bool, true, false, not, ◌&&◌, ◌||◌, Option, Some, None, option_and_then}
 use Rattle.lab_core.specs.declared.answer.End.{End}
 use Rattle.dap_editor.specs.declared.message.UndefinedOpcode.{UndefinedOpcode}
+use Rattle.dap_editor.specs.declared.request.ExceptionFilters.{ExceptionFilters}
 use Rattle.dap_editor.specs.declared.request.Launch.{Launch}
+use Rattle.dap_editor.specs.Argument.{no_filters}
 use Rattle.dap_program.specs.declared.end.EndPolicy.{EndPolicy}
 use Rattle.dap_program.specs.declared.end.EndPolicy.TheVariants.{Exit, Hold}
-use Rattle.dap_program.specs.Ends.{exception_at}
+use Rattle.dap_program.specs.Ends.{exception_at, policy_at}
 use Rattle.dap_launch.specs.declared.program.Phase.{Phase}
 use Rattle.dap_launch.specs.declared.program.Phase.TheVariants as phase
 use Rattle.dap_launch.specs.declared.program.Program.{Program}
@@ -27,20 +28,35 @@ is_live (Some p) = not (is_over p.phase)
 
 -- ---- the end of its run
 
--- a run is held at its end only for a debugger
-abbrev pub launch_policy : Launch → EndPolicy
-launch_policy l = if l.stops_at_end && l.is_debugged then Hold else Exit
+-- The ends at which a launch's run is held, by the filters that are set: only for a debugger.
+abbrev pub held_for : ExceptionFilters → Launch → ExceptionFilters
+held_for filters l = record {
+  undefined = l.is_debugged && (l.stops_at_end || filters.undefined);
+  halt = l.is_debugged && (l.stops_at_end || filters.halt);
+}
 
-abbrev pub policy_of : Option Program → EndPolicy
-policy_of None = Exit
-policy_of (Some p) = launch_policy p.launch
+abbrev pub held_ends : ExceptionFilters → Option Program → ExceptionFilters
+held_ends filters None = no_filters
+held_ends filters (Some p) = held_for filters p.launch
+
+-- what becomes of the program if its run ends so
+abbrev pub policy_of : ExceptionFilters → Option Program → End → EndPolicy
+policy_of filters program how = policy_at (held_ends filters program) how
 
 abbrev pub ended_phase : EndPolicy → End → Phase
 ended_phase Exit how = phase.Over
 ended_phase Hold how = phase.Held how
 
-abbrev pub ended_program : End → Program → Program
-ended_program how p = in_phase (ended_phase (launch_policy p.launch) how) p
+abbrev pub ended_program : ExceptionFilters → End → Program → Program
+ended_program filters how p = in_phase (ended_phase (policy_at (held_for filters p.launch) how) how) p
+
+-- a run that is held there is one like any other again
+abbrev pub released_phase : Phase → Phase
+released_phase (phase.Held how) = phase.Begun
+released_phase other = other
+
+abbrev pub released_program : Program → Program
+released_program p = in_phase (released_phase p.phase) p
 
 -- how the run ended that is held there
 abbrev pub end_in : Phase → Option End

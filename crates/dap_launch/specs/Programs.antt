@@ -1,6 +1,8 @@
 -- A launched program (Debug Adapter Protocol, `launch` and `restart`): its breakpoints, and how it begins.
-use Rattle.std.specs.Prelude.{ℕ, List, take, Bool, ◌&&◌, if◌then◌else◌}
+use Rattle.std.specs.Prelude.{ℕ, List, [], ◌∷◌, take, Bool, ◌&&◌, if◌then◌else◌}
 use Rattle.base_text.specs.Bytes.{Text}
+use Rattle.base_text.specs.Latin.{latin_bytes}
+use Rattle.lab_core.specs.declared.event.Event.TheVariants.{Typed}
 use Rattle.lab_core.specs.Board.{Board}
 use Rattle.lab_image.specs.Sources.{line_count}
 use Rattle.dap_editor.specs.declared.message.EditorStop.TheVariants.{Entry}
@@ -12,9 +14,11 @@ use Rattle.dap_program.specs.declared.messages.FollowUp.{FollowUp}
 use Rattle.dap_program.specs.declared.messages.FollowUp.TheVariants.{Nothing, Continued, Stopped}
 use Rattle.dap_program.specs.declared.opening.LoadReason.{LoadReason}
 use Rattle.dap_program.specs.declared.opening.LoadReason.TheVariants.{Launch, Restart}
+use Rattle.dap_program.specs.Boards.{after, begin_run}
 use Rattle.dap_program.specs.Breakpoints.{board_armed_at, labels_behind}
 use Rattle.dap_launch.specs.declared.program.Phase.TheVariants as phase
 use Rattle.dap_launch.specs.declared.program.Program.{Program}
+use Rattle.dap_launch.specs.Lives.{in_phase}
 
 -- a program that was loaded, before it begins
 abbrev pub program_of : LaunchOf → ℕ → Text → Program
@@ -26,6 +30,22 @@ program_of l start text =
 -- it is stopped before its first step
 abbrev pub pauses : LaunchOf → Bool
 pauses l = l.stops_on_entry && l.is_debugged
+
+-- what is typed before its first step
+abbrev pub with_input : Text → Board → Board
+with_input [] b = b
+with_input (character ∷ input) b = after (Typed (latin_bytes (character ∷ input))) b
+
+-- the board after it began
+abbrev pub begun_board : Program → Board → Board
+begun_board p b = begin_run p.start (pauses p.launch) (with_input p.launch.input b)
+
+-- where it begins at once
+abbrev pub begun_if : Bool → Program → Program
+begun_if begins p = if begins then in_phase phase.Begun p else p
+
+abbrev pub board_if : Bool → Program → Board → Board
+board_if begins p b = if begins then begun_board p b else b
 
 -- A restart may follow a stop, so it tells that the run goes on.
 abbrev pub going_follow : LoadReason → FollowUp

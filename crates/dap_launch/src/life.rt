@@ -1,14 +1,20 @@
 //! How far a program is, and what its run's end makes of it.
 ghost use Rattle.std.specs.Prelude.{◌≡◌, option_map};
 ghost use Rattle.dap_launch.specs.Lives as lives;
-ghost use Rattle.dap_launch.specs.Lives.{is_live, launch_policy, policy_of, ended_program, end_of};
+ghost use Rattle.dap_launch.specs.Lives.{is_live, held_for, held_ends, ended_program, end_of};
 ghost use Rattle.dap_launch.specs.Lives.{exception_of};
 
 use crate::program::{Phase, Program};
 use dap_editor::message::UndefinedOpcode;
-use dap_editor::request::Launch;
-use dap_program::end::{EndPolicy, exception_at};
+use dap_editor::request::{ExceptionFilters, Launch};
+use dap_program::end::{EndPolicy, exception_at, policy_at};
 use lab_core::answer::End;
+
+/// Of an editor that set no filter.
+pub const NO_FILTERS: ExceptionFilters = ExceptionFilters {
+    undefined: false,
+    halt: false,
+};
 
 /// Whether a program was launched and isn't over.
 pub fn is_live(program: &Option<Program>) -> bool
@@ -29,23 +35,22 @@ pub fn end_program(program: &mut Option<Program>)
     }
 }
 
-fn launch_policy(launch: &Launch) -> EndPolicy
-    ensures { result ≡ launch_policy launch.now }
+fn held_for(filters: ExceptionFilters, launch: &Launch) -> ExceptionFilters
+    ensures { result ≡ held_for filters launch.now }
 {
-    if launch.stops_at_end && launch.is_debugged {
-        EndPolicy::Hold
-    } else {
-        EndPolicy::Exit
+    ExceptionFilters {
+        undefined: launch.is_debugged && (launch.stops_at_end || filters.undefined),
+        halt: launch.is_debugged && (launch.stops_at_end || filters.halt),
     }
 }
 
-/// What becomes of the program where its run ends.
-pub fn policy_of(program: &Option<Program>) -> EndPolicy
-    ensures { result ≡ policy_of program.now }
+/// The ends at which the program's run is held.
+pub fn held_ends(filters: ExceptionFilters, program: &Option<Program>) -> ExceptionFilters
+    ensures { result ≡ held_ends filters program.now }
 {
     match program {
-        None => EndPolicy::Exit,
-        Some(program) => launch_policy(&program.launch),
+        None => NO_FILTERS,
+        Some(program) => held_for(filters, &program.launch),
     }
 }
 
@@ -60,11 +65,30 @@ fn ended_phase(policy: EndPolicy, end: End) -> Phase
 }
 
 /// Notes that the program's run ended.
-pub fn note_end(program: &mut Option<Program>, end: End)
-    ensures { program.new ≡ option_map (ended_program end) program.old }
+pub fn note_end(program: &mut Option<Program>, filters: ExceptionFilters, end: End)
+    ensures { program.new ≡ option_map (ended_program filters end) program.old }
 {
     if let Some(program) = program {
-        program.phase = ended_phase(launch_policy(&program.launch), end);
+        let policy = policy_at(held_for(filters, &program.launch), end);
+        program.phase = ended_phase(policy, end);
+    }
+}
+
+fn released_phase(phase: Phase) -> Phase
+    ensures { result ≡ lives.released_phase phase }
+{
+    match phase {
+        Phase::Held(_) => Phase::Begun,
+        Phase::Loaded | Phase::Begun | Phase::Over => phase,
+    }
+}
+
+/// Lets a program whose run is held at its end go on from elsewhere.
+pub fn release_program(program: &mut Option<Program>)
+    ensures { program.new ≡ option_map lives.released_program program.old }
+{
+    if let Some(program) = program {
+        program.phase = released_phase(program.phase);
     }
 }
 

@@ -3,6 +3,7 @@ use Rattle.std.specs.Prelude.{ℕ, Bool, Ok, Err, if◌then◌else◌}
 use Rattle.lab_core.specs.declared.event.Event.{Event}
 use Rattle.lab_core.specs.declared.event.Event.TheVariants as event
 use Rattle.lab_core.specs.Board.{Board}
+use Rattle.lab_core.specs.Changes.{after_registers}
 use Rattle.lab_core.specs.Events.{EventResult, result_of}
 use Rattle.lab_core.specs.Labs.{LabState, RepresentsBoard}
 
@@ -27,6 +28,10 @@ IsSure _ = ⊥
 abbrev pub begin_run : ℕ → Bool → Board → Board
 begin_run start pauses b =
     if pauses then after event.Pause (after (event.Start start) b) else after (event.Start start) b
+
+-- PC is set by hand
+abbrev pub after_goto : ℕ → Board → Board
+after_goto address b = after_registers (record b.machine.regs { pc = address }) b
 
 -- the lab represents some board
 abbrev pub RepresentsSomeBoard : LabState → Type 0

@@ -1,5 +1,5 @@
 -- The end of a run, and of its program (Debug Adapter Protocol, `exited` and `stopped`).
-use Rattle.std.specs.Prelude.{ℕ, Option, Some, None}
+use Rattle.std.specs.Prelude.{ℕ, Bool, Option, Some, None, if◌then◌else◌}
 use Rattle.lab_core.specs.declared.answer.End.{End}
 use Rattle.lab_core.specs.declared.answer.End.TheVariants as end
 use Rattle.lab_core.specs.declared.answer.SliceOutcome.{SliceOutcome}
@@ -9,6 +9,7 @@ use Rattle.lab_core.specs.Moments.{after_hold}
 use Rattle.dap_editor.specs.declared.message.UndefinedOpcode.{UndefinedOpcode}
 use Rattle.dap_editor.specs.declared.message.EditorStop.{EditorStop}
 use Rattle.dap_editor.specs.declared.message.EditorStop.TheVariants as stop
+use Rattle.dap_editor.specs.declared.request.ExceptionFilters.{ExceptionFilters}
 use Rattle.dap_program.specs.declared.end.EndPolicy.{EndPolicy}
 use Rattle.dap_program.specs.declared.end.EndPolicy.TheVariants.{Exit, Hold}
 
@@ -30,14 +31,22 @@ stop_by (Some undefined) = stop.Exception undefined
 abbrev pub stop_at : End → EditorStop
 stop_at e = stop_by (exception_at e)
 
+-- whether the run is held that ended so
+abbrev pub is_held_at : ExceptionFilters → End → Bool
+is_held_at held end.Halted = held.halt
+is_held_at held (end.Undefined opcode pc) = held.undefined
+
+abbrev pub policy_at : ExceptionFilters → End → EndPolicy
+policy_at held e = if is_held_at held e then Hold else Exit
+
 -- the board after its run ended
 abbrev pub left_at_end : EndPolicy → Board → Board
 left_at_end Exit b = b
 left_at_end Hold b = after_hold b
 
--- the board after a slice with this outcome: a run that is to be held at its end is stopped there
-abbrev pub held_at_end : EndPolicy → SliceOutcome → Board → Board
-held_at_end policy outcome.More b = b
-held_at_end policy outcome.Waiting b = b
-held_at_end policy (outcome.Stop s) b = b
-held_at_end policy (outcome.End e) b = left_at_end policy b
+-- the board after a slice with this outcome: a run that is to be held at this end is stopped there
+abbrev pub held_at_end : ExceptionFilters → SliceOutcome → Board → Board
+held_at_end held outcome.More b = b
+held_at_end held outcome.Waiting b = b
+held_at_end held (outcome.Stop s) b = b
+held_at_end held (outcome.End e) b = left_at_end (policy_at held e) b

@@ -10,3 +10,4 @@ pub mod Breakpoints
 pub mod Openings
 pub mod Failures
 pub mod Memory
+pub mod Targets

@@ -19,10 +19,11 @@ use Rattle.dap_editor.specs.declared.message.EditorEvent.TheVariants as event
 use Rattle.dap_editor.specs.declared.message.EditorStop.TheVariants.{Board as AtBoard}
 use Rattle.dap_editor.specs.declared.message.OutputCategory.{OutputCategory}
 use Rattle.dap_editor.specs.declared.message.OutputCategory.TheVariants as category
+use Rattle.dap_editor.specs.declared.request.ExceptionFilters.{ExceptionFilters}
 use Rattle.dap_program.specs.declared.slice.Slice.{Slice}
 use Rattle.dap_program.specs.declared.end.EndPolicy.{EndPolicy}
 use Rattle.dap_program.specs.declared.end.EndPolicy.TheVariants.{Exit, Hold}
-use Rattle.dap_program.specs.Ends.{exit_code, stop_at, held_at_end}
+use Rattle.dap_program.specs.Ends.{exit_code, stop_at, policy_at, held_at_end}
 use Rattle.dap_program.specs.Messages.{as_messages, end_events}
 
 -- ---- what the program writes
@@ -61,22 +62,23 @@ policy_events Hold e = event.Stopped (stop_at e) ∷ []
 abbrev pub run_end_events : EndPolicy → End → List EditorEvent
 run_end_events policy e = exception_events e ++ policy_events policy e
 
-abbrev pub outcome_events : EndPolicy → SliceOutcome → List EditorEvent
-outcome_events policy outcome.More = []
-outcome_events policy outcome.Waiting = []
-outcome_events policy (outcome.Stop s) = event.Stopped (AtBoard (reason_of s)) ∷ []
-outcome_events policy (outcome.End e) = run_end_events policy e
+-- by the ends at which the run is held
+abbrev pub outcome_events : ExceptionFilters → SliceOutcome → List EditorEvent
+outcome_events held outcome.More = []
+outcome_events held outcome.Waiting = []
+outcome_events held (outcome.Stop s) = event.Stopped (AtBoard (reason_of s)) ∷ []
+outcome_events held (outcome.End e) = run_end_events (policy_at held e) e
 
 -- the events of a slice with these port operations and this outcome
-abbrev pub slice_events : EndPolicy → List PortOperation → SliceOutcome → List EditorEvent
-slice_events policy traffic ending =
+abbrev pub slice_events : ExceptionFilters → List PortOperation → SliceOutcome → List EditorEvent
+slice_events held traffic ending =
     console_events (filter_map written_to_console traffic) ++ (line_events (list_any wants_line traffic)
-    ++ outcome_events policy ending)
+    ++ outcome_events held ending)
 
 -- ---- the slice
 
 -- what a slice is on a board
-pub record IsSliceOf (policy : EndPolicy) (b : Board) (s : Slice) (lab : LabState) : Type 0 where
-  pub messages : s.messages ≡ as_messages (slice_events policy (traffic_of (slice_end b).0 b) (slice_end b).1)
+pub record IsSliceOf (held : ExceptionFilters) (b : Board) (s : Slice) (lab : LabState) : Type 0 where
+  pub messages : s.messages ≡ as_messages (slice_events held (traffic_of (slice_end b).0 b) (slice_end b).1)
   pub outcome : s.outcome ≡ (slice_end b).1
-  pub represents : RepresentsBoard lab (held_at_end policy (slice_end b).1 (after_slice b))
+  pub represents : RepresentsBoard lab (held_at_end held (slice_end b).1 (after_slice b))

@@ -3,7 +3,7 @@ ghost use Rattle.std.specs.Prelude.{◌≡◌, true, false, Err, OnOk, OnErr};
 ghost use Rattle.lab_core.specs.Board.{Board};
 ghost use Rattle.lab_core.specs.Events.{Fits};
 ghost use Rattle.lab_core.specs.Labs.{RepresentsBoard};
-ghost use Rattle.dap_program.specs.Boards.{IsSure, after, begin_run};
+ghost use Rattle.dap_program.specs.Boards.{IsSure, after, after_goto, begin_run};
 
 use lab_core::answer::Answer;
 use lab_core::event::Event;
@@ -43,6 +43,15 @@ pub fn change_surely(lab: &mut Lab, event: Event)
     let answer = lab.apply(&event);
     drop(event);
     drop(answer);
+}
+
+/// Sets PC by hand.
+pub fn set_pc(lab: &mut Lab, address: u16)
+    ensures { (b : Board) → RepresentsBoard lab.old b → RepresentsBoard lab.new (after_goto address b) }
+{
+    let mut registers = lab.regs();
+    registers.pc = address;
+    lab.set_registers(registers);
 }
 
 /// Begins a run at an address.

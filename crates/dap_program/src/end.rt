@@ -2,9 +2,11 @@
 ghost use Rattle.std.specs.Prelude.{◌≡◌};
 ghost use Rattle.lab_core.specs.Board.{Board};
 ghost use Rattle.lab_core.specs.Labs.{RepresentsBoard};
+ghost use Rattle.dap_program.specs.Ends as ends;
 ghost use Rattle.dap_program.specs.Ends.{exit_code, exception_at, stop_at, left_at_end, held_at_end};
 
 use dap_editor::message::{EditorStop, UndefinedOpcode};
+use dap_editor::request::ExceptionFilters;
 use lab_core::answer::{End, SliceOutcome};
 use lab_core::lab::Lab;
 
@@ -56,13 +58,33 @@ fn leave_at_end(lab: &mut Lab, policy: EndPolicy)
     }
 }
 
+fn is_held_at(held: ExceptionFilters, end: End) -> bool
+    ensures { result ≡ ends.is_held_at held end }
+{
+    match end {
+        End::Halted => held.halt,
+        End::Undefined { .. } => held.undefined,
+    }
+}
+
+/// What becomes of a program whose run ended so, by the ends at which it is held.
+pub fn policy_at(held: ExceptionFilters, end: End) -> EndPolicy
+    ensures { result ≡ ends.policy_at held end }
+{
+    if is_held_at(held, end) {
+        EndPolicy::Hold
+    } else {
+        EndPolicy::Exit
+    }
+}
+
 /// Stops a run at its end if it is to be held there.
-pub fn hold_at_end(lab: &mut Lab, policy: EndPolicy, outcome: SliceOutcome)
+pub fn hold_at_end(lab: &mut Lab, held: ExceptionFilters, outcome: SliceOutcome)
     ensures { (b : Board) → RepresentsBoard lab.old b
-        → RepresentsBoard lab.new (held_at_end policy outcome b) }
+        → RepresentsBoard lab.new (held_at_end held outcome b) }
 {
     match outcome {
         SliceOutcome::More | SliceOutcome::Waiting | SliceOutcome::Stop(_) => {}
-        SliceOutcome::End(_) => leave_at_end(lab, policy),
+        SliceOutcome::End(end) => leave_at_end(lab, policy_at(held, end)),
     }
 }

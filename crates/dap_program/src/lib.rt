@@ -16,3 +16,4 @@ pub mod messages;
 pub mod opening;
 pub mod refusals;
 pub mod slice;
+pub mod target;

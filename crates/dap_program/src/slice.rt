@@ -13,11 +13,12 @@ ghost use Rattle.dap_program.specs.Slices.{undefined_line, exception_events, pol
 ghost use Rattle.dap_program.specs.Slices.{outcome_events, slice_events, IsSliceOf};
 ghost use Rattle.dap_program.specs.Kits.{IsSliceKit};
 
-use crate::end::{EndPolicy, exit_code, hold_at_end, stop_at};
+use crate::end::{EndPolicy, exit_code, hold_at_end, policy_at, stop_at};
 use crate::messages::Messages;
 use base_text::sequence::{Bytes, Sequence};
 use dap_board::names::reason_of;
 use dap_editor::message::{EditorEvent, EditorStop, Message, OutputCategory};
+use dap_editor::request::ExceptionFilters;
 use i80_devs::console::{is_line_requested, print_all};
 use i80_exec::ports::PortOperation;
 use lab_core::answer::{End, SliceOutcome};
@@ -191,11 +192,16 @@ fn push_run_end(messages: &mut Messages, text: Vec<u8>, policy: EndPolicy, end: 
     push_policy(messages, policy, end);
 }
 
-fn push_outcome(messages: &mut Messages, text: Vec<u8>, policy: EndPolicy, outcome: SliceOutcome)
+fn push_outcome(
+    messages: &mut Messages,
+    text: Vec<u8>,
+    held: ExceptionFilters,
+    outcome: SliceOutcome,
+)
     requires few { length messages.old + 3 ≤ 8 }
     requires begun { text.items ≡ codes "UndefinedOpcode: " }
     requires room { 28 ≤ vec_capacity text }
-    ensures { messages.new ≡ messages.old ++ as_messages (outcome_events policy outcome) }
+    ensures { messages.new ≡ messages.old ++ as_messages (outcome_events held outcome) }
 {
     match outcome {
         SliceOutcome::More | SliceOutcome::Waiting => drop(text),
@@ -204,7 +210,7 @@ fn push_outcome(messages: &mut Messages, text: Vec<u8>, policy: EndPolicy, outco
             let reason = EditorStop::Board(reason_of(stop));
             messages.push_event(EditorEvent::Stopped(reason));
         }
-        SliceOutcome::End(end) => push_run_end(messages, text, policy, end),
+        SliceOutcome::End(end) => push_run_end(messages, text, policy_at(held, end), end),
     }
 }
 
@@ -212,13 +218,13 @@ impl SliceKit {
     // The messages about a slice with these port operations and this outcome.
     fn tell(
         self,
-        policy: EndPolicy,
+        held: ExceptionFilters,
         traffic: &[PortOperation],
         outcome: SliceOutcome,
     ) -> Sequence<Message>
         requires kit { IsSliceKit self }
         requires few { length traffic.now ≤ 4096 }
-        ensures { result ≡ as_messages (slice_events policy traffic.now outcome) }
+        ensures { result ≡ as_messages (slice_events held traffic.now outcome) }
     {
         let SliceKit {
             mut messages,
@@ -229,27 +235,27 @@ impl SliceKit {
         let console = print_all(console, traffic);
         push_console(&mut messages, console);
         push_line(&mut messages, question, is_line_requested(traffic));
-        push_outcome(&mut messages, opcode, policy, outcome);
+        push_outcome(&mut messages, opcode, held, outcome);
         messages.into_sequence()
     }
 }
 
 // ---- the slice
 
-/// Makes at most 4,096 steps of the run on a board, and returns the messages about them. `policy` says if the
-/// run is held at its end. If no run goes on, it fails like out of memory. If it fails, the board stays as it
+/// Makes at most 4,096 steps of the run on a board, and returns the messages about them. `held` says at which
+/// ends the run is held. If no run goes on, it fails like out of memory. If it fails, the board stays as it
 /// was.
-pub fn make_slice(alloc: Global, lab: &mut Lab, policy: EndPolicy) -> Result<Slice, AllocError>
+pub fn make_slice(alloc: Global, lab: &mut Lab, held: ExceptionFilters) -> Result<Slice, AllocError>
     requires { RepresentsSomeBoard lab.old }
     ensures made { (b : Board) → RepresentsBoard lab.old b → b.run ≡ Running
-        → IfOk result (λ slice. IsSliceOf policy b slice lab.new) }
+        → IfOk result (λ slice. IsSliceOf held b slice lab.new) }
     ensures err { OnErr result (lab.new ≡ lab.old) }
 {
     let kit = slice_kit(alloc)?;
     match run_slice(lab) {
         Ok((traffic, outcome)) => {
-            let messages = kit.tell(policy, traffic.as_slice(), outcome);
-            hold_at_end(lab, policy, outcome);
+            let messages = kit.tell(held, traffic.as_slice(), outcome);
+            hold_at_end(lab, held, outcome);
             Ok(Slice { messages, outcome })
         }
         Err(_) => {

@@ -1,5 +1,5 @@
 -- What events leave as it was: a board's run, and whether a debugger is attached.
-use Rattle.std.proofs.Common.{◌≡◌, ◌∙◌, ℕ, zero, suc, ◌+◌, List, [], ◌∷◌, Bool, true, false, Option, Some}
+use Rattle.std.proofs.Common.{◌≡◌, ◌∙◌, ℕ, zero, suc, List, [], ◌∷◌, Bool, true, false, Option, Some}
 use Rattle.std.proofs.Common.{None, Result, Ok, Err, if◌then◌else◌, refl, sym, ap, subst}
 use Rattle.base_text.specs.Bytes.{Bytes, Text}
 use Rattle.asm_syntax.specs.Outcome.{◌>>=◌}
@@ -11,7 +11,6 @@ use Rattle.lab_views.specs.Places.{place_named}
 use Rattle.lab_views.specs.Values.{value_spelled}
 use Rattle.lab_image.specs.Sources.{place_of, source_at}
 use Rattle.lab_core.specs.declared.answer.Answer.TheVariants as answer
-use Rattle.lab_core.specs.declared.event.Event.{Event}
 use Rattle.lab_core.specs.declared.event.Event.TheVariants as event
 use Rattle.lab_core.specs.declared.fault.EventFault.{EventFault}
 use Rattle.lab_core.specs.declared.fault.EventFault.TheVariants.{Vector, Latched}
@@ -22,6 +21,7 @@ use Rattle.lab_core.specs.Events.{EventResult, result_of, without_run, with_run,
 use Rattle.lab_core.specs.Events.{while_attached, with_source, with_breakpoints, or_poke, or_source}
 use Rattle.lab_core.specs.Events.{or_assembly, cell_meaning, as_answer, parts_of, after_start, after_stop}
 use Rattle.lab_core.specs.Events.{after_end}
+use Rattle.lab_core.specs.Changes.{after_write}
 use Rattle.lab_core.specs.Slices.{after_steps}
 use Rattle.dap_editor.specs.declared.request.Launch.{Launch}
 use Rattle.dap_program.specs.declared.load.LoadFault.{LoadFault}
@@ -29,7 +29,7 @@ use Rattle.dap_program.specs.Boards.{board_after, after, begin_run}
 use Rattle.dap_program.specs.Breakpoints.{board_armed_at}
 use Rattle.dap_program.specs.Loading.{attached_where, board_to_load_on, start_of, with_start, loaded_by}
 use Rattle.dap_program.specs.Loading.{load_result}
-use Rattle.dap_program.specs.Memory.{poke_of, with_bytes_at}
+use Rattle.dap_launch.specs.Programs.{with_input}
 use Rattle.dap_launch.specs.declared.program.Program.{Program}
 use Rattle.dap_session.specs.Breakpoints.{armed_where, labels_armed}
 use Rattle.dap_points.specs.Points.{WantedBreakpointsState}
@@ -41,12 +41,6 @@ pub record SameRun (b b' : Board) : Type 0 where
 
 pub same : (b : Board) → SameRun b b
 same b = record { run = refl; is_attached = refl }
-
-same_twice : (a b c : Board) → SameRun a b → SameRun b c → SameRun a c
-same_twice a b c first second = record {
-  run = second.run ∙ first.run;
-  is_attached = second.is_attached ∙ first.is_attached;
-}
 
 -- so it is after what an event gives
 abbrev pub KeepsRun : Board → EventResult → Type 0
@@ -140,21 +134,13 @@ kept_labels (Some p) names points b = kept_armed p.launch.program _ names b
 
 -- ---- bytes that are written
 
-abbrev IsPoke : Event → Type 0
-IsPoke (event.Poke reference name value) = Unit {0}
-IsPoke other = ⊥
+pub kept_written : (start : ℕ) (bytes : Bytes) (b : Board) → SameRun b (after_write start bytes b)
+kept_written start bytes b = record { run = refl; is_attached = refl }
 
-kept_by_hand : (e : Event) (b : Board) → IsPoke e → KeepsRun b (result_of e b)
-kept_by_hand (event.Poke reference name value) b is = kept_poke reference name value b
-kept_by_hand other b is = absurd is
-
-pub kept_written : (bytes : Bytes) (start : ℕ) (b : Board) → SameRun b (with_bytes_at start bytes b)
-kept_written [] start b = same b
-kept_written (byte ∷ bytes) start b =
-    let b' = after (poke_of start byte) b in
-    same_twice b b' (with_bytes_at start (byte ∷ bytes) b)
-    (kept_after b (result_of (poke_of start byte) b) (kept_by_hand (poke_of start byte) b tt))
-    (kept_written bytes (start + 1) b')
+-- and that are typed
+pub kept_typed : (input : Text) (b : Board) → SameRun b (with_input input b)
+kept_typed [] b = same b
+kept_typed (character ∷ input) b = record { run = refl; is_attached = refl }
 
 -- ---- steps
 

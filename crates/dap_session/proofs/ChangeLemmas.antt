@@ -66,6 +66,7 @@ use Rattle.dap_session.specs.Evaluations.{behind, byte_spelled, byte_command, co
 use Rattle.dap_session.specs.Evaluations.{value_told, prompting, evaluating}
 use Rattle.dap_session.specs.Launches.{beginning_in, beginning_where}
 use Rattle.dap_session.specs.Memory.{is_stopped, writing_from, writing}
+use Rattle.dap_session.specs.Targets.{going_to}
 use Rattle.dap_session.specs.Requests.{board_done, finish_done, resuming_from, explaining, set_configured}
 use Rattle.dap_session.specs.Requests.{resetting, commanding, editing, objection, asking}
 use Rattle.dap_session.specs.Requests.{asking_unless, turn}
@@ -317,6 +318,9 @@ written address offset bytes s =
     either (is_stopped s.board.run) s _ _ (written_from (address_at address offset) bytes s)
     (λ w. inl (same s.board))
 
+gone : (target : ℕ) (s : SessionState) → Tells s (going_to target s)
+gone target s = either (is_stopped s.board.run) s _ _ (λ w. inr refl) (λ w. inl (same s.board))
+
 edit_told : (c : EditorCommand) (s : SessionState) → Tells s (editing c s)
 edit_told (editor.Initialize supported) s =
     either s.settings.is_initialized s _ _ (λ w. inl (same s.board)) (λ w. inl (same s.board))
@@ -325,6 +329,8 @@ edit_told (editor.SetFunctionBreakpoints names) s =
     λ w. inl (kept_labels s.settings.program names s.settings.points s.board)
 edit_told editor.ExceptionInfo s = explained (exception_of s.settings.program) s
 edit_told (editor.Evaluate expression c) s = evaluated expression c s
+edit_told (editor.WriteMemory address offset bytes) s = written address offset bytes s
+edit_told (editor.Goto target) s = gone target s
 edit_told other s = λ w. inl (same s.board)
 
 -- ---- all requests
@@ -336,8 +342,6 @@ told_asking : (a : RequestContent) (found : Option FileText) (s : SessionState)
     → IsWatched a s (asking a found s).state → IsTold s (asking a found s).events (asking a found s).state
 told_asking (asked.Editor (editor.Launch l)) found s w = absurd (true≢false w.loads)
 told_asking (asked.Editor editor.Restart) found s w = absurd (true≢false w.loads)
-told_asking (asked.Editor (editor.WriteMemory address offset bytes)) found s w =
-    written address offset bytes s (watches _ s (writing address offset bytes s) w)
 told_asking (asked.Board c) found s w = command_told c s (watches _ s (commanding c s) w)
 told_asking (asked.Faulty f) found s w = inl (same s.board)
 told_asking (asked.Editor c) found s w = edit_told c s (watches _ s (editing c s) w)
@@ -389,6 +393,7 @@ quiet_asking (asked.Editor editor.ExceptionInfo) found s is =
 quiet_asking (asked.Editor (editor.ReadMemory address offset count)) found s is = refl
 quiet_asking (asked.Editor (editor.Disassemble address offset instruction_offset count)) found s is = refl
 quiet_asking (asked.Editor editor.LoadedSources) found s is = refl
+quiet_asking (asked.Editor (editor.GotoTargets path line)) found s is = refl
 quiet_asking other found s is = absurd is
 
 quiet_unless : (o : Option Text) (a : RequestContent) (found : Option FileText) (s : SessionState) → IsLook a

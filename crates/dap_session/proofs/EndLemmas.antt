@@ -18,12 +18,14 @@ use Rattle.dap_editor.specs.declared.request.RequestContent.TheVariants as asked
 use Rattle.dap_program.specs.declared.end.EndPolicy.{EndPolicy}
 use Rattle.dap_program.specs.declared.end.EndPolicy.TheVariants.{Exit, Hold}
 use Rattle.dap_program.specs.declared.messages.FollowUp.TheVariants as follow
-use Rattle.dap_program.specs.Ends.{exit_code, left_at_end}
+use Rattle.dap_program.specs.Ends.{exit_code, policy_at, left_at_end}
 use Rattle.dap_program.specs.Messages.{as_messages, end_events, events_of}
 use Rattle.dap_program.specs.Slices.{console_events, line_events, exception_events, policy_events}
 use Rattle.dap_program.proofs.SliceLemmas.{told-append}
 use Rattle.dap_launch.specs.declared.program.Program.{Program}
-use Rattle.dap_launch.specs.Lives.{launch_policy, policy_of, ended_phase, ended_program, end_in, end_of}
+use Rattle.dap_launch.specs.Lives.{held_for, policy_of, ended_phase, ended_program, end_in, end_of}
+use Rattle.dap_editor.specs.declared.request.ExceptionFilters.{ExceptionFilters}
+use Rattle.lab_core.specs.declared.answer.End.TheVariants as end
 use Rattle.dap_session.specs.States.{SessionState, wants_slice}
 use Rattle.dap_session.specs.Requests.{resuming_from, asking_unless, turn}
 use Rattle.dap_session.specs.Slices.{slicing, slice_told}
@@ -41,10 +43,11 @@ end_in_phase : (policy : EndPolicy) (how : End) → policy ≡ Hold → end_in (
 end_in_phase Exit how is = absurd cc
 end_in_phase Hold how is = refl
 
-end_held : (o : Option Program) (how : End) → policy_of o ≡ Hold
-    → end_of (option_map (ended_program how) o) ≡ Some how
-end_held None how is = absurd cc
-end_held (Some p) how is = end_in_phase (launch_policy p.launch) how is
+end_held : (f : ExceptionFilters) (o : Option Program) (how : End) → policy_of f o how ≡ Hold
+    → end_of (option_map (ended_program f how) o) ≡ Some how
+end_held f None end.Halted is = absurd cc
+end_held f None (end.Undefined opcode pc) is = absurd cc
+end_held f (Some p) how is = end_in_phase (policy_at (held_for f p.launch) how) how is
 
 resumed : (o : Option End) (how : End) (s : SessionState) → o ≡ Some how → s.board.run ≡ Stopped
     → (resuming_from o command.Continue s).follow ≡ follow.Ended (exit_code how)
@@ -77,7 +80,7 @@ told_last first second third last =
 ended_by : (k : ℕ) (how : End) (s : SessionState) → s.settings.is_initialized ≡ true
     → EndIsTold how s (left_by (outcome.End how) (after_steps k s.board)) (slicing (k, outcome.End how) s)
 ended_by k how s initialized =
-    let policy = policy_of s.settings.program in
+    let policy = policy_of s.settings.filters s.settings.program how in
     let b = left_by (outcome.End how) (after_steps k s.board) in
     let console = console_events (filter_map written_to_console (traffic_of k s.board)) in
     let line = line_events (list_any wants_line (traffic_of k s.board)) in
@@ -87,7 +90,7 @@ ended_by k how s initialized =
       told = told_last console line (exception_events how) (policy_events policy how);
       later = λ is.
           continued how (slicing (k, outcome.End how) s).state initialized
-          (end_held s.settings.program how is) (stopped_left policy b is);
+          (end_held s.settings.filters s.settings.program how is) (stopped_left policy b is);
     }
 
 ended_so : (p : ℕ × SliceOutcome) (how : End) (s : SessionState) → s.settings.is_initialized ≡ true

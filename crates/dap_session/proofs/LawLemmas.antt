@@ -45,11 +45,12 @@ use Rattle.dap_launch.specs.declared.file.FileText.{FileText}
 use Rattle.dap_launch.specs.declared.program.Program.{Program}
 use Rattle.dap_session.specs.States.{SessionState, wants_slice}
 use Rattle.dap_session.specs.Evaluations.{value_told}
-use Rattle.dap_session.specs.Memory.{writing}
 use Rattle.dap_program.specs.declared.end.EndPolicy.{EndPolicy}
 use Rattle.dap_program.specs.declared.end.EndPolicy.TheVariants.{Exit, Hold}
 use Rattle.dap_launch.specs.Files.{text_in}
-use Rattle.dap_launch.specs.Lives.{policy_of}
+use Rattle.dap_launch.specs.Lives.{held_ends}
+use Rattle.dap_program.specs.Ends.{policy_at}
+use Rattle.dap_editor.specs.declared.request.ExceptionFilters.{ExceptionFilters}
 use Rattle.dap_launch.specs.Programs.{program_of, program_lines, program_labels}
 use Rattle.dap_session.specs.Launches.{started_follow, by_text, loading, loading_as, launching_over}
 use Rattle.dap_session.specs.Launches.{restarting_of}
@@ -66,7 +67,7 @@ callers_answered-told (e ∷ es) = callers_answered-told es
 
 answered_slicing : (p : ℕ × SliceOutcome) (s : SessionState) → callers_answered (slicing p s).messages ≡ []
 answered_slicing (k, ending) s = callers_answered-told
-    (slice_events (policy_of s.settings.program) (traffic_of k s.board) ending)
+    (slice_events (held_ends s.settings.filters s.settings.program) (traffic_of k s.board) ending)
 
 answered_sliced : (s : SessionState) → callers_answered (slice_told s).messages ≡ []
 unfolding slice_told
@@ -181,8 +182,6 @@ silent_asking : (a : RequestContent) (found : Option FileText) (s : SessionState
     → IsSilent (asking a found s).events
 silent_asking (asked.Editor (editor.Launch l)) found s = silent_launch s.settings.program l found s
 silent_asking (asked.Editor editor.Restart) found s = silent_restart s.settings.program found s
-silent_asking (asked.Editor (editor.WriteMemory address offset bytes)) found s =
-    silent_follow (writing address offset bytes s).follow
 silent_asking (asked.Board c) found s = silent_follow (replying (asked.Board c) s).follow
 silent_asking (asked.Faulty f) found s = silent_follow (replying (asked.Faulty f) s).follow
 silent_asking other found s = silent_follow (replying other s).follow
@@ -215,13 +214,13 @@ silent_end Exit (end.Undefined opcode pc) = refl
 silent_end Hold end.Halted = refl
 silent_end Hold (end.Undefined opcode pc) = refl
 
-silent_outcome : (p : EndPolicy) (o : SliceOutcome) → IsSilent (outcome_events p o)
+silent_outcome : (p : ExceptionFilters) (o : SliceOutcome) → IsSilent (outcome_events p o)
 silent_outcome p outcome.More = refl
 silent_outcome p outcome.Waiting = refl
 silent_outcome p (outcome.Stop reason) = refl
-silent_outcome p (outcome.End e) = silent_end p e
+silent_outcome p (outcome.End e) = silent_end (policy_at p e) e
 
-shown_events : (bytes : Bytes) (asks : Bool) (p : EndPolicy) (o : SliceOutcome)
+shown_events : (bytes : Bytes) (asks : Bool) (p : ExceptionFilters) (o : SliceOutcome)
     → shown (console_events bytes ++ (line_events asks ++ outcome_events p o)) ≡ bytes
 shown_events bytes asks p o =
     let rest = line_events asks ++ outcome_events p o in
@@ -233,8 +232,8 @@ shown_events bytes asks p o =
 shown_slicing : (p : ℕ × SliceOutcome) (s : SessionState)
     → console_of (slicing p s).messages ≡ written_in p s.board
 shown_slicing (k, ending) s =
-    shown_events (filter_map written_to_console (traffic_of k s.board)) _ (policy_of s.settings.program)
-    ending
+    shown_events (filter_map written_to_console (traffic_of k s.board)) _
+    (held_ends s.settings.filters s.settings.program) ending
 
 shown_sliced : (s : SessionState) → console_of (slice_told s).messages ≡ written_by slice s
 unfolding slice_told

@@ -40,6 +40,7 @@ use Rattle.dap_session.specs.Evaluations.{value_told, prompting, evaluating}
 use Rattle.dap_session.specs.Launches.{beginning_in, beginning_where, loading_as, by_text, loading}
 use Rattle.dap_session.specs.Launches.{launching_over, restarting_of}
 use Rattle.dap_session.specs.Memory.{is_stopped, writing_from, writing}
+use Rattle.dap_session.specs.Targets.{going_to}
 use Rattle.dap_session.specs.Requests.{board_done, finish_done, resuming_from, explaining, set_configured}
 use Rattle.dap_session.specs.Requests.{resetting, commanding, editing, objection, asking, asking_unless, turn}
 use Rattle.dap_session.specs.Laws.{LeavesAll, RefusalLeaves}
@@ -151,17 +152,23 @@ written address offset bytes s =
     either (is_stopped s.board.run) s _ _ (written_from (address_at address offset) bytes s)
     (λ text is. same s)
 
+gone : (target : ℕ) (s : SessionState) → Refuses s (going_to target s)
+gone target s = either (is_stopped s.board.run) s _ _ (λ text is. absurd cc) (λ text is. same s)
+
 edit_left : (c : EditorCommand) (s : SessionState) → Refuses s (editing c s)
 edit_left (editor.Initialize supported) s =
     either s.settings.is_initialized s _ _ (λ text is. same s) (λ text is. absurd cc)
 edit_left editor.Terminate s = λ text is. absurd cc
 edit_left (editor.SetFunctionBreakpoints names) s = λ text is. absurd cc
-edit_left editor.SetExceptionBreakpoints s = λ text is. absurd cc
+edit_left (editor.SetExceptionBreakpoints filters) s = λ text is. absurd cc
 edit_left editor.ExceptionInfo s = explained (exception_of s.settings.program) s
 edit_left (editor.Evaluate expression c) s = evaluated expression c s
 edit_left (editor.ReadMemory address offset count) s = λ text is. absurd cc
 edit_left (editor.Disassemble address offset instruction_offset count) s = λ text is. absurd cc
 edit_left editor.LoadedSources s = λ text is. absurd cc
+edit_left (editor.WriteMemory address offset bytes) s = written address offset bytes s
+edit_left (editor.GotoTargets path line) s = λ text is. absurd cc
+edit_left (editor.Goto target) s = gone target s
 edit_left other s = λ text is. same s
 
 -- ---- programs that are loaded
@@ -192,7 +199,6 @@ asked_left : (a : RequestContent) (found : Option FileText) (s : SessionState)
     → RefusesTurn s (asking a found s)
 asked_left (asked.Editor (editor.Launch l)) found s = launched s.settings.program l found s
 asked_left (asked.Editor editor.Restart) found s = restarted s.settings.program found s
-asked_left (asked.Editor (editor.WriteMemory address offset bytes)) found s = written address offset bytes s
 asked_left (asked.Board c) found s = command_left c s
 asked_left (asked.Faulty f) found s = λ text is. same s
 asked_left (asked.Editor c) found s = edit_left c s

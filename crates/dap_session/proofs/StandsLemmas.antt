@@ -12,7 +12,7 @@ use Rattle.dap_answers.specs.declared.answer.Body.{Body}
 use Rattle.dap_board.specs.Commands.{Performed, Performs}
 use Rattle.dap_program.specs.Boards.{RepresentsSomeBoard}
 use Rattle.dap_program.specs.declared.slice.Slice.{Slice}
-use Rattle.dap_program.specs.declared.end.EndPolicy.{EndPolicy}
+use Rattle.dap_editor.specs.declared.request.ExceptionFilters.{ExceptionFilters}
 use Rattle.dap_program.specs.Ends.{held_at_end}
 use Rattle.dap_program.specs.Slices.{IsSliceOf}
 use Rattle.dap_editor.specs.declared.message.EditorBody.TheVariants.{Board as OfBoard}
@@ -20,7 +20,7 @@ use Rattle.dap_editor.specs.declared.message.EditorOutcome.TheVariants.{Success}
 use Rattle.dap_program.specs.declared.messages.FollowUp.TheVariants.{Ended}
 use Rattle.dap_program.specs.Boards.{after}
 use Rattle.lab_core.specs.declared.event.Event.TheVariants.{Interrupt}
-use Rattle.dap_session.specs.declared.reply.Reply.{Reply}
+use Rattle.dap_launch.specs.declared.reply.Reply.{Reply}
 use Rattle.dap_session.specs.Requests.{finish_done}
 use Rattle.dap_session.specs.States.{SessionState, with_board, program_over, is_running, wants_slice}
 use Rattle.dap_session.specs.Represents.{SessionFields, RepresentsSession, Replies}
@@ -42,18 +42,18 @@ running_is Running w is = refl
 running_is Stopped w is = absurd (true≢false (sym is))
 
 -- a slice of a run that goes on
-pub stands_sliced : (policy : EndPolicy) (old : SessionFields) (lab new : LabState) (wants : Bool)
+pub stands_sliced : (held : ExceptionFilters) (old : SessionFields) (lab new : LabState) (wants : Bool)
     (slice : Slice)
     → lab ≡ old.lab → ((s : SessionState) → RepresentsSession old s → wants ≡ wants_slice s) → wants ≡ true
-    → ((b : Board) → RepresentsBoard lab b → b.run ≡ Running → IsSliceOf policy b slice new)
+    → ((b : Board) → RepresentsBoard lab b → b.run ≡ Running → IsSliceOf held b slice new)
     → RepresentsSomeBoard lab → RepresentsSomeBoard new
-stands_sliced policy old lab new wants slice same is so made (b, represents) =
+stands_sliced held old lab new wants slice same is so made (b, represents) =
     let s : SessionState = record { board = b; settings = old.settings } in
     let viewed : RepresentsSession old s =
     record { board = subst (λ l. RepresentsBoard l b) same represents; settings = refl } in
     let running : b.run ≡ Running =
     running_is b.run (not old.settings.waits) (sym (is s viewed) ∙ so) in
-    (held_at_end policy (slice_end b).1 (after_slice b), (made b represents running).represents)
+    (held_at_end held (slice_end b).1 (after_slice b), (made b represents running).represents)
 
 abbrev pub Interrupts : SessionFields → SessionFields → Type 0
 Interrupts mid new = (t : SessionState) → RepresentsSession mid t

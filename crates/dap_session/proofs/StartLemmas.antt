@@ -34,13 +34,13 @@ use Rattle.dap_session.specs.Turns.{Turn}
 use Rattle.dap_launch.specs.Files.{text_in}
 use Rattle.dap_launch.specs.Lives.{in_phase, is_over, is_live}
 use Rattle.dap_launch.specs.Programs.{pauses, going_follow, begun_follow, program_of, program_lines}
-use Rattle.dap_launch.specs.Programs.{program_labels, program_board}
-use Rattle.dap_session.specs.Launches.{installing, beginning, beginning_in, beginning_where, started_follow}
+use Rattle.dap_launch.specs.Programs.{program_labels, program_board, with_input, begun_if, board_if}
+use Rattle.dap_session.specs.Launches.{installing, beginning_in, beginning_where, started_follow}
 use Rattle.dap_session.specs.Launches.{loading_as, by_text, loading, launching_over, restarting_of}
 use Rattle.dap_session.specs.Requests.{set_configured}
 use Rattle.dap_session.specs.Laws.{Shown, unstopped, shown_after, shown_for, ends_told, has_run}
-use Rattle.dap_session.proofs.BoardLemmas.{kept_armed, run_started, begun_run, begun_attached, IsLoaded}
-use Rattle.dap_session.proofs.BoardLemmas.{is_loaded}
+use Rattle.dap_session.proofs.BoardLemmas.{kept_armed, kept_typed, run_started, begun_run, begun_attached}
+use Rattle.dap_session.proofs.BoardLemmas.{IsLoaded, is_loaded}
 use Rattle.dap_session.proofs.RunLemmas.{Seen, seen, PhaseFits, ProgramFits, IsReached, both, idle, waiting}
 use Rattle.dap_session.proofs.RunLemmas.{Follows, Goes, none_ended, none_living, still, IsCalm, calm_follows}
 use Rattle.dap_session.proofs.RunLemmas.{calm_still}
@@ -119,9 +119,10 @@ goes_in phase.Loaded p s is on attached none =
     let live : is_live s.settings.program ≡ true = ap is_live on ∙ ap (λ x. not (is_over x)) is in
     record {
       follows =
-          begins (pauses p.launch) follow.Nothing p s.board true (seen s) none attached
-          (debugged p.launch) refl
-          (record { stops = ap shown_for none; ends = refl });
+          (let kept = kept_typed p.launch.input s.board in
+          begins (pauses p.launch) follow.Nothing p (with_input p.launch.input s.board) true (seen s)
+          (kept.run ∙ none) (kept.is_attached ∙ attached) (debugged p.launch) refl
+          (record { stops = ap shown_for none; ends = refl }));
       quiet = λ dead. both (is_live s.settings.program) live dead;
     }
 goes_in phase.Begun p s is on attached fits =
@@ -176,11 +177,11 @@ follows_started : (c : Bool) (o : LoadReason) (l : LaunchOf) (start : ℕ) (text
     → s.settings.is_configured ≡ c → IsReached (seen s) → b.run ≡ NoRun → b.is_attached ≡ l.is_debugged
     → GoesOn (shown_for s.board.run) (going_follow o)
     → Follows (seen s) (as_messages (events_of (if c then begun_follow o l else follow.Nothing)))
-    (seen (if c then (beginning (program_of l start text) (put (program_of l start text) b s)).state
-    else put (program_of l start text) b s))
+    (seen (put (begun_if c (program_of l start text)) (board_if c (program_of l start text) b) s))
 follows_started true o l start text s b done reached none attached goes =
-    begins (pauses l) (going_follow o) (program_of l start text) b s.settings.is_configured (seen s) none
-    attached (debugged l) done goes
+    let kept = kept_typed l.input b in
+    begins (pauses l) (going_follow o) (program_of l start text) (with_input l.input b)
+    s.settings.is_configured (seen s) (kept.run ∙ none) (kept.is_attached ∙ attached) (debugged l) done goes
 follows_started false o l start text s b done reached none attached goes = record {
   reached = (attached, none);
   stops = ap shown_for (waiting (seen s) reached done) ∙ sym (ap shown_for none);

@@ -1,5 +1,6 @@
 -- What requests and slices tell of stops and of ends.
-use Rattle.std.proofs.Common.{◌≡◌, ◌∙◌, ℕ, List, [], ◌∷◌, ◌++◌, Bool, true, false, not, ◌&&◌, Option, Some}
+use Rattle.std.proofs.Common.{◌≡◌, ◌∙◌, ℕ, List, [], ◌∷◌, ◌++◌, Bool, true, false, not, ◌&&◌, ◌||◌}
+use Rattle.std.proofs.Common.{Option, Some}
 use Rattle.std.proofs.Common.{option_map, if◌then◌else◌}
 use Rattle.std.proofs.Common.{None, Ok, refl, sym, ap, subst, inl, inr, true≢false, fold, filter_map}
 use Rattle.std.proofs.lemmas.Bool.{cases_Bool, and_parts}
@@ -37,17 +38,19 @@ use Rattle.dap_editor.specs.declared.message.UndefinedOpcode.{UndefinedOpcode}
 use Rattle.dap_editor.specs.declared.request.Launch.{Launch as LaunchOf}
 use Rattle.dap_program.specs.declared.end.EndPolicy.{EndPolicy}
 use Rattle.dap_program.specs.declared.end.EndPolicy.TheVariants.{Exit, Hold}
-use Rattle.dap_program.specs.Ends.{exit_code, held_at_end}
+use Rattle.dap_program.specs.Ends.{exit_code, policy_at, left_at_end, held_at_end}
+use Rattle.dap_editor.specs.declared.request.ExceptionFilters.{ExceptionFilters}
 use Rattle.dap_launch.specs.declared.file.FileText.{FileText}
 use Rattle.dap_launch.specs.declared.program.Phase.{Phase}
 use Rattle.dap_launch.specs.declared.program.Phase.TheVariants as phase
 use Rattle.dap_launch.specs.declared.program.Program.{Program}
-use Rattle.dap_launch.specs.Lives.{in_phase, is_live, launch_policy, policy_of, ended_phase, ended_program}
+use Rattle.dap_launch.specs.Lives.{in_phase, is_live, held_for, held_ends, policy_of, ended_phase}
+use Rattle.dap_launch.specs.Lives.{ended_program}
 use Rattle.dap_launch.specs.Lives.{end_of, exception_of}
 use Rattle.lab_shown.specs.declared.step.StepKind.{StepKind}
 use Rattle.lab_shown.specs.declared.step.Granularity.{Granularity}
 use Rattle.dap_session.specs.States.{SessionState, no_events, session_before_requests, with_board}
-use Rattle.dap_session.specs.States.{is_running, wants_slice}
+use Rattle.dap_session.specs.States.{is_running, wants_slice, with_filters}
 use Rattle.dap_session.specs.Requests.{resuming_from, explaining, set_initialized, commanding, editing}
 use Rattle.dap_session.specs.Requests.{objection, asking}
 use Rattle.dap_session.specs.Requests.{asking_unless, turn}
@@ -62,7 +65,7 @@ use Rattle.dap_session.proofs.RunLemmas.{idle, lively}
 use Rattle.dap_session.proofs.RunLemmas.{begun_runs, with_run, none_living}
 use Rattle.dap_session.proofs.RunLemmas.{over_seen, Follows, still, runs_on, ends_live, IsCalm, calm_follows}
 use Rattle.dap_session.proofs.TurnLemmas.{GoesBy, goes_either, goes_changed, goes_board, goes_shown}
-use Rattle.dap_session.proofs.TurnLemmas.{goes_evaluating}
+use Rattle.dap_session.proofs.TurnLemmas.{goes_evaluating, goes_to}
 use Rattle.dap_session.proofs.TurnLemmas.{goes_lines, goes_functions, goes_writing, goes_paused}
 use Rattle.dap_session.proofs.TurnLemmas.{goes_resumed, goes_finished, goes_resetting, goes_terminating}
 use Rattle.dap_session.proofs.StartLemmas.{goes_where, calm_none, FollowsTurn, follows_launch}
@@ -136,6 +139,10 @@ goes_editing (editor.Initialize supported) s reached =
     (still s (set_initialized supported s) reached refl)
 goes_editing editor.Terminate s reached = goes_terminating s reached
 goes_editing (editor.SetFunctionBreakpoints names) s reached = goes_functions names s reached
+goes_editing (editor.SetExceptionBreakpoints filters) s reached =
+    still s (with_filters filters s) reached refl
+goes_editing (editor.WriteMemory address offset bytes) s reached = goes_writing address offset bytes s reached
+goes_editing (editor.Goto target) s reached = goes_to target s reached
 goes_editing (editor.Evaluate expression c) s reached = goes_evaluating expression c s reached
 goes_editing editor.ExceptionInfo s reached = goes_explaining (exception_of s.settings.program) s reached
 goes_editing other s reached = still s s reached refl
@@ -148,8 +155,6 @@ follows_asking (asked.Editor (editor.Launch l)) found s reached =
     follows_launch s.settings.program l found s refl reached
 follows_asking (asked.Editor editor.Restart) found s reached =
     follows_restart s.settings.program found s reached
-follows_asking (asked.Editor (editor.WriteMemory address offset bytes)) found s reached =
-    (goes_writing address offset bytes s reached).follows
 follows_asking (asked.Board c) found s reached = (goes_command c s reached).follows
 follows_asking (asked.Faulty f) found s reached = (still s s reached refl).follows
 follows_asking (asked.Editor c) found s reached = (goes_editing c s reached).follows
@@ -169,8 +174,6 @@ quiet_asking : (a : RequestContent) (found : Option FileText) (s : SessionState)
     → is_live s.settings.program ≡ false → asks_to_load a ≡ false → (asking a found s).events ≡ []
 quiet_asking (asked.Editor (editor.Launch l)) found s reached dead is = absurd (true≢false is)
 quiet_asking (asked.Editor editor.Restart) found s reached dead is = absurd (true≢false is)
-quiet_asking (asked.Editor (editor.WriteMemory address offset bytes)) found s reached dead is =
-    (goes_writing address offset bytes s reached).quiet dead
 quiet_asking (asked.Board c) found s reached dead is = (goes_command c s reached).quiet dead
 quiet_asking (asked.Faulty f) found s reached dead is = refl
 quiet_asking (asked.Editor c) found s reached dead is = (goes_editing c s reached).quiet dead
@@ -208,9 +211,9 @@ held_shown : (e : End) (d : Shown) → fold shown_after d (as_messages (run_end_
 held_shown end.Halted d = refl
 held_shown (end.Undefined opcode pc) d = refl
 
-held_ends : (e : End) → ends_told (as_messages (run_end_events Hold e)) ≡ 0
-held_ends end.Halted = refl
-held_ends (end.Undefined opcode pc) = refl
+held_end_told : (e : End) → ends_told (as_messages (run_end_events Hold e)) ≡ 0
+held_end_told end.Halted = refl
+held_end_told (end.Undefined opcode pc) = refl
 
 configured_phase : (h : Phase) (run : RunState) (c : Bool) → PhaseFits h run c → has_run run ≡ true
     → c ≡ true
@@ -222,7 +225,7 @@ configured_phase phase.Over run c fits has = absurd (no_run run fits has)
 -- a program whose run ended so, on this board
 abbrev ended_seen : EndPolicy → End → Program → Board → Bool → Seen
 ended_seen policy e p b is_configured =
-    let b' = held_at_end policy (outcome.End e) (left_by (outcome.End e) b) in
+    let b' = left_at_end policy (left_by (outcome.End e) b) in
     record {
       program = Some (in_phase (ended_phase policy e) p);
       run = b'.run;
@@ -255,57 +258,65 @@ follows_ended Hold e p b s on debugs kept reached has =
         (refl, configured_phase p.phase s.board.run s.settings.is_configured fits.1 has),
       );
       stops = held_shown e (shown_for s.board.run);
-      ends = held_ends e ∙ none_living (is_live s.settings.program) true refl;
+      ends = held_end_told e ∙ none_living (is_live s.settings.program) true refl;
     }
 
 held_if : (b : Bool) → (if b then Hold else Exit) ≡ Hold → b ≡ true
 held_if true is = refl
 held_if false is = absurd cc
 
-held_debugged : (l : LaunchOf) → launch_policy l ≡ Hold → l.is_debugged ≡ true
-held_debugged l is =
-    (and_parts l.stops_at_end l.is_debugged (held_if (l.stops_at_end && l.is_debugged) is)).1
+held_filtered : (d filtered : Bool) → (if d && filtered then Hold else Exit) ≡ Hold → d ≡ true
+held_filtered d filtered is = (and_parts d filtered (held_if (d && filtered) is)).0
 
-follows_end : (o : Option Program) (e : End) (b : Board) (s : SessionState) → s.settings.program ≡ o
-    → SameRun s.board b → IsReached (seen s) → has_run s.board.run ≡ true
-    → Follows (seen s) (as_messages (run_end_events (policy_of o) e)) (record {
-      program = option_map (ended_program e) o;
-      run = (held_at_end (policy_of o) (outcome.End e) (left_by (outcome.End e) b)).run;
-      is_attached = (held_at_end (policy_of o) (outcome.End e) (left_by (outcome.End e) b)).is_attached;
+held_debugged : (f : ExceptionFilters) (l : LaunchOf) (e : End) → policy_at (held_for f l) e ≡ Hold
+    → l.is_debugged ≡ true
+held_debugged f l end.Halted is = held_filtered l.is_debugged (l.stops_at_end || f.halt) is
+held_debugged f l (end.Undefined opcode pc) is =
+    held_filtered l.is_debugged (l.stops_at_end || f.undefined) is
+
+follows_end : (f : ExceptionFilters) (o : Option Program) (e : End) (b : Board) (s : SessionState)
+    → s.settings.program ≡ o → SameRun s.board b → IsReached (seen s) → has_run s.board.run ≡ true
+    → Follows (seen s) (as_messages (run_end_events (policy_of f o e) e)) (record {
+      program = option_map (ended_program f e) o;
+      run = (left_at_end (policy_of f o e) (left_by (outcome.End e) b)).run;
+      is_attached = (left_at_end (policy_of f o e) (left_by (outcome.End e) b)).is_attached;
       is_configured = s.settings.is_configured;
     })
-follows_end None e b s on kept reached has =
+follows_end f None e b s on kept reached has =
     absurd (true≢false (sym (lively (seen s) reached has) ∙ ap is_live on))
-follows_end (Some p) e b s on kept reached has =
-    follows_ended (launch_policy p.launch) e p b s on (held_debugged p.launch) kept reached has
+follows_end f (Some p) e b s on kept reached has =
+    follows_ended (policy_at (held_for f p.launch) e) e p b s on (held_debugged f p.launch e) kept reached has
+
+abbrev held_in : SessionState → ExceptionFilters
+held_in s = held_ends s.settings.filters s.settings.program
 
 -- the session after a slice of its run that ended so, on this board
 abbrev left : SliceOutcome → Board → SessionState → SessionState
 left o b s = record {
-  board = held_at_end (policy_of s.settings.program) o (left_by o b);
+  board = held_at_end (held_in s) o (left_by o b);
   settings = settings_after o s.settings;
 }
 
 follows_outcome : (o : SliceOutcome) (b : Board) (s : SessionState) → SameRun s.board b → IsReached (seen s)
     → has_run s.board.run ≡ true
-    → Follows (seen s) (as_messages (outcome_events (policy_of s.settings.program) o)) (seen (left o b s))
+    → Follows (seen s) (as_messages (outcome_events (held_in s) o)) (seen (left o b s))
 follows_outcome outcome.More b s kept reached has =
     (still s (with_board b s) reached (seen_board b s kept)).follows
 follows_outcome outcome.Waiting b s kept reached has =
     (still s (with_board b s) reached (seen_board b s kept)).follows
 follows_outcome (outcome.Stop r) b s kept reached has =
-    let es = as_messages (outcome_events (policy_of s.settings.program) (outcome.Stop r)) in
+    let es = as_messages (outcome_events (held_in s) (outcome.Stop r)) in
     subst (λ a. Follows (seen s) es (record (with_run Stopped (seen s)) { is_attached = a }))
     (sym kept.is_attached) (runs_on Stopped (seen s) es reached has refl refl refl)
 follows_outcome (outcome.End e) b s kept reached has =
-    follows_end s.settings.program e b s refl kept reached has
+    follows_end s.settings.filters s.settings.program e b s refl kept reached has
 
 follows_slicing : (p : ℕ × SliceOutcome) (s : SessionState) → IsReached (seen s) → has_run s.board.run ≡ true
     → Follows (seen s) (slicing p s).messages (seen (slicing p s).state)
 follows_slicing (k, ending) s reached has =
     let written = filter_map written_to_console (traffic_of k s.board) in
     let asks = list_any wants_line (traffic_of k s.board) in
-    let last = outcome_events (policy_of s.settings.program) ending in
+    let last = outcome_events (held_in s) ending in
     calm_follows (console_events written) (line_events asks ++ last) _ _
     (calm_console written)
     (calm_follows (line_events asks) last _ _ (calm_line asks)

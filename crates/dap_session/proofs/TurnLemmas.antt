@@ -1,6 +1,6 @@
 -- What a request that begins no program tells of stops and of ends.
 use Rattle.std.proofs.Common.{◌≡◌, ◌∙◌, ◌-◌, ℕ, List, ◌++◌, Bool, true, false, Option, Some, None, Result, Ok}
-use Rattle.std.proofs.Common.{Err}
+use Rattle.std.proofs.Common.{Err, not, option_map}
 use Rattle.std.proofs.Common.{codes, take, if◌then◌else◌, refl, sym, ap, subst}
 use Rattle.base_text.specs.Bytes.{Bytes, Text}
 use Rattle.base_text.specs.Latin.{latin_bytes}
@@ -21,7 +21,7 @@ use Rattle.dap_answers.specs.declared.answer.StopReason.TheVariants.{Pause as By
 use Rattle.dap_talk.specs.declared.command.DapCommand.TheVariants as command
 use Rattle.dap_board.specs.Bodies.{body_of}
 use Rattle.dap_board.specs.Commands.{command_result, with_body}
-use Rattle.dap_editor.specs.declared.message.EditorStop.TheVariants.{Board as AtBoard}
+use Rattle.dap_editor.specs.declared.message.EditorStop.TheVariants.{Board as AtBoard, Goto}
 use Rattle.dap_editor.specs.declared.request.EvaluateContext.{EvaluateContext}
 use Rattle.dap_editor.specs.declared.request.EvaluateContext.TheVariants as context
 use Rattle.dap_editor.specs.declared.request.SignedOffset.{SignedOffset}
@@ -30,22 +30,30 @@ use Rattle.dap_inspect.specs.Expressions.{expression_text}
 use Rattle.dap_points.specs.Points.{has_place}
 use Rattle.dap_program.specs.declared.messages.FollowUp.TheVariants as follow
 use Rattle.dap_program.specs.Boards.{after}
-use Rattle.dap_program.specs.Memory.{address_at, with_bytes_at}
-use Rattle.dap_launch.specs.Lives.{is_live}
+use Rattle.dap_program.specs.Boards.{after_goto}
+use Rattle.dap_program.specs.Memory.{address_at}
+use Rattle.dap_program.specs.Refusals.{board_refusal}
+use Rattle.lab_core.specs.declared.fault.EventFault.TheVariants.{NotStopped}
+use Rattle.lab_core.specs.Changes.{after_write}
+use Rattle.dap_launch.specs.declared.program.Phase.{Phase}
+use Rattle.dap_launch.specs.declared.program.Phase.TheVariants as phase
+use Rattle.dap_launch.specs.declared.program.Program.{Program}
+use Rattle.dap_launch.specs.Lives.{is_over, is_live, released_phase, released_program}
 use Rattle.dap_editor.specs.declared.message.EditorEvent.TheVariants as event_told
 use Rattle.dap_program.specs.Messages.{as_messages, event_if, change_events, events_of}
-use Rattle.dap_session.specs.States.{SessionState, with_board, program_over}
-use Rattle.dap_session.specs.Turns.{Replied, change_follow}
+use Rattle.dap_session.specs.States.{SessionState, with_board, program_over, program_released}
+use Rattle.dap_session.specs.Turns.{Replied, change_follow, refusing, accepting}
 use Rattle.dap_session.specs.Breakpoints.{program_at, setting_lines, setting_functions}
 use Rattle.dap_session.specs.Evaluations.{behind, byte_spelled, byte_command, command_with, command_reply}
 use Rattle.dap_session.specs.Evaluations.{value_told, prompting, evaluating}
 use Rattle.dap_session.specs.Memory.{is_stopped, writing_from, writing}
+use Rattle.dap_session.specs.Targets.{going_to}
 use Rattle.dap_session.specs.Requests.{board_done, finish_done, resetting, terminating}
-use Rattle.dap_session.specs.Laws.{has_run}
+use Rattle.dap_session.specs.Laws.{has_run, shown_for}
 use Rattle.dap_session.proofs.BoardLemmas.{KeepsRun, kept_press, kept_show, kept_where, kept_labels}
 use Rattle.dap_session.proofs.BoardLemmas.{kept_written, run_interrupted, still_attached}
 use Rattle.dap_session.proofs.RunLemmas.{seen, seen_board, IsReached, both, lively, over_seen, Follows, Goes}
-use Rattle.dap_session.proofs.RunLemmas.{still}
+use Rattle.dap_session.proofs.RunLemmas.{still, PhaseFits, ProgramFits, none_living}
 use Rattle.dap_session.proofs.RunLemmas.{IsCalm, calm_still}
 use Rattle.dap_session.proofs.RunLemmas.{runs_on, goes_ended, goes_over}
 
@@ -163,8 +171,8 @@ goes_written : (o : Option ℕ) (bytes : Bytes) (s : SessionState) → IsReached
 goes_written None bytes s reached = still s s reached refl
 goes_written (Some start) bytes s reached =
     let all = take (65536 - start) bytes in
-    changed s (with_board (with_bytes_at start all s.board) s) reached
-    (seen_board _ s (kept_written all start s.board))
+    changed s (with_board (after_write start all s.board) s) reached
+    (seen_board _ s (kept_written start all s.board))
 
 pub goes_writing : (address : ℕ) (offset : SignedOffset) (bytes : Bytes) (s : SessionState)
     → IsReached (seen s)
@@ -201,6 +209,51 @@ goes_resumed Stopped step to_body s is reached =
       follows = runs_on Running (seen s) _ reached has refl refl refl;
       quiet = λ dead. both (is_live s.settings.program) (lively (seen s) reached has) dead;
     }
+
+-- ---- PC is set
+
+released_phase_fits : (h : Phase) (run : RunState) (c : Bool) → PhaseFits h run c
+    → PhaseFits (released_phase h) run c
+released_phase_fits phase.Loaded run c fits = fits
+released_phase_fits phase.Begun run c fits = fits
+released_phase_fits (phase.Held how) run c fits = fits
+released_phase_fits phase.Over run c fits = fits
+
+released_fits : (o : Option Program) (run : RunState) (a c : Bool) → ProgramFits o run a c
+    → ProgramFits (option_map released_program o) run a c
+released_fits None run a c fits = fits
+released_fits (Some p) run a c fits = (fits.0, released_phase_fits p.phase run c fits.1)
+
+released_phase_lives : (h : Phase) → not (is_over (released_phase h)) ≡ not (is_over h)
+released_phase_lives phase.Loaded = refl
+released_phase_lives phase.Begun = refl
+released_phase_lives (phase.Held how) = refl
+released_phase_lives phase.Over = refl
+
+released_lives : (o : Option Program) → is_live (option_map released_program o) ≡ is_live o
+released_lives None = refl
+released_lives (Some p) = released_phase_lives p.phase
+
+goes_set : (r : RunState) (target : ℕ) (s : SessionState) → s.board.run ≡ r → IsReached (seen s)
+    → GoesBy s (if is_stopped r
+    then accepting (follow.Stopped Goto) (program_released (with_board (after_goto target s.board) s))
+    else refusing (board_refusal NotStopped) s)
+goes_set NoRun target s is reached = still s s reached refl
+goes_set Running target s is reached = still s s reached refl
+goes_set Stopped target s is reached =
+    let program = s.settings.program in
+    let lives : is_live program ≡ true = lively (seen s) reached (ap has_run is) in
+    record {
+      follows = record {
+        reached = released_fits program s.board.run s.board.is_attached s.settings.is_configured reached;
+        stops = sym (ap shown_for is);
+        ends = none_living (is_live program) _ (released_lives program ∙ lives);
+      };
+      quiet = λ dead. both (is_live program) lives dead;
+    }
+
+pub goes_to : (target : ℕ) (s : SessionState) → IsReached (seen s) → GoesBy s (going_to target s)
+goes_to target s reached = goes_set s.board.run target s refl reached
 
 -- ---- a program ends
 

@@ -9,14 +9,13 @@ use Rattle.dap_launch.specs.declared.program.Phase.TheVariants as phase
 use Rattle.dap_launch.specs.declared.program.Program.{Program}
 use Rattle.dap_launch.specs.Files.{text_in}
 use Rattle.dap_launch.specs.Lives.{in_phase}
-use Rattle.dap_launch.specs.Programs.{program_of, pauses, begun_follow, program_lines, program_labels}
-use Rattle.dap_launch.specs.Programs.{program_board}
+use Rattle.dap_launch.specs.Programs.{program_of, begun_follow, program_lines, program_labels}
+use Rattle.dap_launch.specs.Programs.{program_board, begun_board, board_if, begun_if}
 use Rattle.dap_program.specs.declared.load.LoadFault.{LoadFault}
 use Rattle.dap_program.specs.declared.messages.FollowUp.{FollowUp}
 use Rattle.dap_program.specs.declared.messages.FollowUp.TheVariants.{Nothing}
 use Rattle.dap_program.specs.declared.opening.LoadReason.{LoadReason}
 use Rattle.dap_program.specs.declared.opening.LoadReason.TheVariants.{Launch, Restart}
-use Rattle.dap_program.specs.Boards.{begin_run}
 use Rattle.dap_program.specs.Failures.{load_refusal, load_event}
 use Rattle.dap_program.specs.Loading.{load_result}
 use Rattle.dap_program.specs.Openings.{opening_events, accepted_outcome}
@@ -28,7 +27,7 @@ use Rattle.dap_session.specs.Turns.{Turn, Replied, turn_of, refusing, accepting}
 -- when the configuration is done
 abbrev pub beginning : Program → SessionState → Replied
 beginning p s = accepting (begun_follow Launch p.launch)
-    (with_board (begin_run p.start (pauses p.launch) s.board)
+    (with_board (begun_board p s.board)
     (with_program (Some (in_phase phase.Begun p)) s))
 
 -- it begins once
@@ -44,23 +43,21 @@ beginning_where (Some p) s = beginning_in p.phase p s
 
 -- ---- how it is loaded
 
--- it begins if the configuration is done
-abbrev pub begin_if_configured : Program → SessionState → SessionState
-begin_if_configured p s = if s.settings.is_configured then (beginning p s).state else s
-
 abbrev pub started_follow : LoadReason → Program → SessionState → FollowUp
 started_follow cause p s =
     if s.settings.is_configured then begun_follow cause p.launch else Nothing
 
--- a loaded program, on its board, takes the place of what was there
+-- A loaded program, on its board, takes the place of what was there. It begins if the configuration is done.
 abbrev pub installing : LoadReason → Program → Board → SessionState → Turn
 installing cause p b s =
     let kept = s.settings.points in
+    let begins = s.settings.is_configured in
     let follow = started_follow cause p s in
     record {
       outcome = accepted_outcome;
       events = opening_events cause (program_lines p kept) (program_labels p kept b) follow;
-      state = begin_if_configured p (with_board (program_board p kept b) (with_program (Some p) s));
+      state =
+          with_board (board_if begins p (program_board p kept b)) (with_program (Some (begun_if begins p)) s);
     }
 
 -- it can't be loaded

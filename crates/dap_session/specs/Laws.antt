@@ -11,6 +11,7 @@ use Rattle.lab_core.specs.Board.{Board}
 use Rattle.lab_core.specs.Slices.{traffic_of}
 use Rattle.dap_editor.specs.declared.message.EditorEvent.{EditorEvent}
 use Rattle.dap_editor.specs.declared.message.EditorEvent.TheVariants as event
+use Rattle.dap_editor.specs.declared.message.EditorStop.TheVariants.{Goto}
 use Rattle.dap_editor.specs.declared.message.Message.{Message}
 use Rattle.dap_editor.specs.declared.message.Message.TheVariants as message
 use Rattle.dap_editor.specs.declared.message.EditorOutcome.{EditorOutcome}
@@ -177,9 +178,10 @@ pub record EndIsTold (how : End) (s : SessionState) (b : Board) (t : Told) : Typ
   pub parts : SameParts b t.state.board
   -- the last events say how it ended
   pub before : List Message
-  pub told : t.messages ≡ before ++ as_messages (policy_events (policy_of s.settings.program) how)
+  pub told : t.messages ≡ before
+      ++ as_messages (policy_events (policy_of s.settings.filters s.settings.program how) how)
   -- so does a run that is held once it goes on
-  pub later : policy_of s.settings.program ≡ Hold
+  pub later : policy_of s.settings.filters s.settings.program how ≡ Hold
       → (turn (asked.Board command.Continue) None t.state).events ≡ end_events (exit_code how)
 
 -- ---- refusals
@@ -195,8 +197,10 @@ RefusalLeaves s outcome s' = (text : Text) → outcome ≡ Refused text → Leav
 
 -- ---- changes by hand
 
+-- an editor also fetches anew what it shows where PC was set
 abbrev pub is_invalidated : EditorEvent → Bool
 is_invalidated event.Invalidated = true
+is_invalidated (event.Stopped Goto) = true
 is_invalidated other = false
 
 -- the machine, the devices and the trace stay as they were, or it is told that they may have changed
@@ -218,4 +222,5 @@ IsLook (asked.Editor editor.ExceptionInfo) = Unit {0}
 IsLook (asked.Editor (editor.ReadMemory address offset count)) = Unit {0}
 IsLook (asked.Editor (editor.Disassemble address offset instruction_offset count)) = Unit {0}
 IsLook (asked.Editor editor.LoadedSources) = Unit {0}
+IsLook (asked.Editor (editor.GotoTargets path line)) = Unit {0}
 IsLook other = ⊥

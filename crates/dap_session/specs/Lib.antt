@@ -3,6 +3,7 @@ pub mod Turns
 pub mod Breakpoints
 pub mod Evaluations
 pub mod Memory
+pub mod Targets
 pub mod Launches
 pub mod Requests
 pub mod Slices

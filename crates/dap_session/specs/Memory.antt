@@ -11,12 +11,13 @@ use Rattle.dap_editor.specs.declared.message.EditorBody.{EditorBody}
 use Rattle.dap_editor.specs.declared.message.EditorBody.TheVariants as body
 use Rattle.dap_inspect.specs.Memory.{bytes_from}
 use Rattle.dap_inspect.specs.Instructions.{before_instructions}
-use Rattle.dap_program.specs.Memory.{address_at, with_bytes_at}
+use Rattle.dap_program.specs.Memory.{address_at}
 use Rattle.dap_program.specs.Refusals.{board_refusal}
 use Rattle.lab_core.specs.declared.fault.EventFault.TheVariants.{NotStopped}
 use Rattle.lab_core.specs.declared.run_state.RunState.{RunState}
 use Rattle.lab_core.specs.declared.run_state.RunState.TheVariants.{NoRun, Running, Stopped}
 use Rattle.lab_core.specs.Board.{Board}
+use Rattle.lab_core.specs.Changes.{after_write}
 use Rattle.dap_session.specs.States.{SessionState, with_board}
 use Rattle.dap_session.specs.Turns.{Replied, change_follow, refusing, succeeding}
 
@@ -40,7 +41,7 @@ abbrev pub writing_from : Option ℕ → Bytes → SessionState → Replied
 writing_from None bytes s = refusing (codes "there is no such address") s
 writing_from (Some start) bytes s =
     let all = take (65536 - start) bytes in
-    succeeding (body.Written (length all)) (change_follow s) (with_board (with_bytes_at start all s.board) s)
+    succeeding (body.Written (length all)) (change_follow s) (with_board (after_write start all s.board) s)
 
 -- only while a run is stopped
 abbrev pub writing : ℕ → SignedOffset → Bytes → SessionState → Replied

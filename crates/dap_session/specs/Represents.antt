@@ -1,21 +1,16 @@
 -- Which states a session represents.
-use Rattle.std.specs.Prelude.{◌≡◌, ℕ, take, Result, List, OnErr, IfOk}
+use Rattle.std.specs.Prelude.{◌≡◌, Result, List, OnErr, IfOk}
 use Rattle.std.specs.declared.alloc.AllocError.{AllocError}
 use Rattle.lab_core.specs.Labs.{LabState, RepresentsBoard}
-use Rattle.base_text.specs.Bytes.{Bytes, Text}
+use Rattle.base_text.specs.Bytes.{Text}
 use Rattle.dap_editor.specs.declared.message.Message.{Message}
 use Rattle.dap_editor.specs.declared.message.PlacedBreakpoint.{PlacedBreakpoint}
-use Rattle.dap_editor.specs.declared.request.RequestContent.{RequestContent}
-use Rattle.dap_editor.specs.declared.request.RequestContent.TheVariants as asked
-use Rattle.dap_editor.specs.declared.request.EditorCommand.TheVariants as editor
 use Rattle.dap_session.specs.declared.settings.SessionSettings.{SessionSettings}
-use Rattle.dap_session.specs.declared.reply.Reply.{Reply}
+use Rattle.dap_launch.specs.declared.reply.Reply.{Reply}
 use Rattle.dap_session.specs.States.{SessionState, with_board}
 use Rattle.dap_session.specs.Turns.{Replied}
 use Rattle.dap_program.specs.Breakpoints.{labels_behind}
-use Rattle.dap_program.specs.Memory.{with_bytes_at}
 use Rattle.dap_session.specs.Breakpoints.{program_lines, labels_armed}
-use Rattle.dap_session.specs.Memory.{writing}
 use Rattle.dap_session.specs.Slices.{Told}
 
 -- what a contract sees of a session
@@ -45,24 +40,8 @@ RepliesAs f old result new =
 abbrev pub Tells : Told → List Message → SessionFields → Type 0
 Tells t messages new = (messages ≡ t.messages) × RepresentsSession new t.state
 
--- The session after memory ran out: as it was; but of the bytes that a `writeMemory` was to write some may be
--- written, from the first on, as if it had asked for no others.
-abbrev pub IsLeft : RequestContent → SessionFields → SessionFields → Type 0
-IsLeft (asked.Editor (editor.WriteMemory address offset bytes)) old new =
-    (s : SessionState) → RepresentsSession old s → (k : ℕ)
-    × RepresentsSession new (writing address offset (take k bytes) s).state
-IsLeft other old new = new ≡ old
-
--- The messages are those of `f` for each state that the session represents.
-abbrev pub TellsFor : RequestContent → (SessionState → Told) → SessionFields
-    → Result (List Message) AllocError
-    → SessionFields
-    → Type 0
-TellsFor a f old result new =
-    ((s : SessionState) → RepresentsSession old s → IfOk result (λ messages. Tells (f s) messages new))
-    × OnErr result (IsLeft a old new)
-
--- The same, for requests that leave the session as it was if memory runs out.
+-- The messages are those of `f` for each state that the session represents. If memory runs out the session
+-- stays as it was.
 abbrev pub TellsAs : (SessionState → Told) → SessionFields → Result (List Message) AllocError → SessionFields
     → Type 0
 TellsAs f old result new =
@@ -76,8 +55,3 @@ pub record LabelsPlaced (names : List Text) (s : SessionState) (points : List Pl
   pub placed : points ≡ labels_behind (program_lines s.settings.program s.settings.points) names s.board
   pub represents : RepresentsSession new (with_board (labels_armed s.settings.program names s.settings.points
       s.board) s)
-
--- the first of these bytes are written, from an address on
-abbrev pub WritesFirst : ℕ → Bytes → SessionState → SessionFields → Type 0
-WritesFirst start bytes s new = (k : ℕ) × RepresentsSession new
-    (with_board (with_bytes_at start (take k bytes) s.board) s)

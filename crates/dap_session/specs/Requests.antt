@@ -1,5 +1,5 @@
 -- What each request is answered by, and the session after it (Debug Adapter Protocol, "Requests").
-use Rattle.std.specs.Prelude.{ℕ, List, [], true, false, not, ◌||◌, Option, Some}
+use Rattle.std.specs.Prelude.{ℕ, List, true, false, not, ◌||◌, Option, Some}
 use Rattle.std.specs.Prelude.{None, Ok, Err, option_to_list, option_map, codes, if◌then◌else◌}
 use Rattle.base_text.specs.Bytes.{Text}
 use Rattle.lab_core.specs.declared.answer.End.{End}
@@ -27,11 +27,13 @@ use Rattle.dap_program.specs.Refusals.{board_refusal, request_refusal}
 use Rattle.dap_launch.specs.declared.file.FileText.{FileText}
 use Rattle.dap_launch.specs.declared.program.Program.{Program}
 use Rattle.dap_launch.specs.Lives.{is_live, end_of, exception_of}
-use Rattle.dap_session.specs.States.{SessionState, no_events, with_board, with_waits, program_over}
+use Rattle.dap_session.specs.States.{SessionState, no_events, with_board, with_filters, with_waits}
+use Rattle.dap_session.specs.States.{program_over}
 use Rattle.dap_session.specs.Turns.{Turn, Replied, turn_of, change_follow, refusing, succeeding, accepting}
 use Rattle.dap_session.specs.Breakpoints.{setting_lines, setting_functions}
 use Rattle.dap_session.specs.Evaluations.{evaluating}
 use Rattle.dap_session.specs.Memory.{memory_at, writing, first_line, code_at}
+use Rattle.dap_session.specs.Targets.{finding_target, going_to}
 use Rattle.dap_session.specs.Launches.{beginning_where, launching, restarting}
 
 -- ---- commands of a board
@@ -140,18 +142,25 @@ commanding command.Continue s = resuming command.Continue s
 commanding (command.Step kind granularity) s = resuming (command.Step kind granularity) s
 commanding other s = performing other (follow_of other s) s
 
+-- those that have to do with memory and code
+abbrev pub editing_memory : EditorCommand → SessionState → Replied
+editing_memory (editor.ReadMemory address offset count) s = reading address offset count s
+editing_memory (editor.WriteMemory address offset bytes) s = writing address offset bytes s
+editing_memory (editor.Disassemble address offset instruction_offset count) s =
+    disassembling address offset instruction_offset count s
+editing_memory (editor.GotoTargets path line) s = finding_target path line s
+editing_memory (editor.Goto target) s = going_to target s
+editing_memory other s = refusing (codes "unknown command") s
+
 abbrev pub editing : EditorCommand → SessionState → Replied
 editing (editor.Initialize supported) s = initializing supported s
 editing editor.Terminate s = terminating s
 editing (editor.SetFunctionBreakpoints names) s = setting_functions names s
-editing editor.SetExceptionBreakpoints s = succeeding (body.Breakpoints []) follow.Nothing s
+editing (editor.SetExceptionBreakpoints filters) s = accepting follow.Nothing (with_filters filters s)
 editing editor.ExceptionInfo s = explaining (exception_of s.settings.program) s
 editing (editor.Evaluate expression context) s = evaluating expression context s
-editing (editor.ReadMemory address offset count) s = reading address offset count s
-editing (editor.Disassemble address offset instruction_offset count) s =
-    disassembling address offset instruction_offset count s
 editing editor.LoadedSources s = succeeding (body.Sources (sources s.settings.program)) follow.Nothing s
-editing other s = refusing (codes "unknown command") s
+editing other s = editing_memory other s
 
 abbrev pub replying : RequestContent → SessionState → Replied
 replying (asked.Board c) s = commanding c s
@@ -170,8 +179,6 @@ objection a s =
 abbrev pub asking : RequestContent → Option FileText → SessionState → Turn
 asking (asked.Editor (editor.Launch l)) found s = launching l found s
 asking (asked.Editor editor.Restart) found s = restarting found s
-asking (asked.Editor (editor.WriteMemory address offset bytes)) found s =
-    turn_of (writing address offset bytes s)
 asking other found s = turn_of (replying other s)
 
 abbrev pub asking_unless : Option Text → RequestContent → Option FileText → SessionState → Turn

@@ -11,7 +11,7 @@ use Rattle.dap_program.specs.Messages.{as_messages, turn_messages}
 use Rattle.lab_core.specs.SliceEnds.{slice_end}
 use Rattle.dap_program.specs.Ends.{held_at_end}
 use Rattle.dap_program.specs.Slices.{slice_events}
-use Rattle.dap_launch.specs.Lives.{policy_of, ended_program}
+use Rattle.dap_launch.specs.Lives.{held_ends, ended_program}
 use Rattle.dap_launch.specs.declared.file.FileText.{FileText}
 use Rattle.dap_session.specs.declared.settings.SessionSettings.{SessionSettings}
 use Rattle.dap_session.specs.States.{SessionState, wants_slice}
@@ -30,15 +30,15 @@ abbrev pub settings_after : SliceOutcome → SessionSettings → SessionSettings
 settings_after outcome.More t = t
 settings_after outcome.Waiting t = record t { waits = true }
 settings_after (outcome.Stop reason) t = t
-settings_after (outcome.End how) t = record t { program = option_map (ended_program how) t.program }
+settings_after (outcome.End how) t = record t { program = option_map (ended_program t.filters how) t.program }
 
 abbrev pub slicing : ℕ × SliceOutcome → SessionState → Told
 slicing (k, ending) s =
-    let policy = policy_of s.settings.program in
+    let held = held_ends s.settings.filters s.settings.program in
     record {
-      messages = as_messages (slice_events policy (traffic_of k s.board) ending);
+      messages = as_messages (slice_events held (traffic_of k s.board) ending);
       state = record {
-        board = held_at_end policy ending (left_by ending (after_steps k s.board));
+        board = held_at_end held ending (left_by ending (after_steps k s.board));
         settings = settings_after ending s.settings;
       };
     }

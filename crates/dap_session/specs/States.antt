@@ -3,11 +3,13 @@ use Rattle.std.specs.Prelude.{Bool, true, false, not, ◌&&◌, Option, None, op
 use Rattle.lab_core.specs.declared.run_state.RunState.{RunState}
 use Rattle.lab_core.specs.declared.run_state.RunState.TheVariants.{NoRun, Running, Stopped}
 use Rattle.lab_core.specs.Board.{Board, opening}
+use Rattle.dap_editor.specs.declared.request.ExceptionFilters.{ExceptionFilters}
 use Rattle.dap_editor.specs.declared.request.SupportedEvents.{SupportedEvents}
+use Rattle.dap_editor.specs.Argument.{no_filters}
 use Rattle.dap_points.specs.Points.{WantedBreakpointsState, no_points}
 use Rattle.dap_launch.specs.declared.program.Phase.TheVariants as phase
 use Rattle.dap_launch.specs.declared.program.Program.{Program}
-use Rattle.dap_launch.specs.Lives.{in_phase}
+use Rattle.dap_launch.specs.Lives.{in_phase, released_program}
 use Rattle.dap_session.specs.declared.settings.SessionSettings.{SessionSettings}
 
 pub record SessionState : Type 0 where
@@ -28,6 +30,7 @@ session_before_requests = record {
     supported = no_events;
     program = None;
     points = no_points;
+    filters = no_filters;
     waits = false;
     has_ended = false;
   };
@@ -42,6 +45,9 @@ with_program p s = record s { settings = record s.settings { program = p } }
 abbrev pub with_points : WantedBreakpointsState → SessionState → SessionState
 with_points p s = record s { settings = record s.settings { points = p } }
 
+abbrev pub with_filters : ExceptionFilters → SessionState → SessionState
+with_filters filters s = record s { settings = record s.settings { filters = filters } }
+
 abbrev pub with_waits : Bool → SessionState → SessionState
 with_waits waits s = record s { settings = record s.settings { waits = waits } }
 
@@ -53,6 +59,10 @@ over t = record t { program = option_map (in_phase phase.Over) t.program }
 
 abbrev pub program_over : SessionState → SessionState
 program_over s = record s { settings = over s.settings }
+
+-- where the run is held at its end the program goes on
+abbrev pub program_released : SessionState → SessionState
+program_released s = with_program (option_map released_program s.settings.program) s
 
 -- ---- the run
 

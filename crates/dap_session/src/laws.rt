@@ -71,7 +71,8 @@ pub fn refusals_leave_all()
         → RefusalLeaves s (turn a found s).outcome (turn a found s).state }
 {}
 
-/// An editor that understands it is told of each change by hand of a live program.
+/// An editor that understands `invalidated` is told by it of each change by hand of a live program; that PC
+/// was set it is told by `stopped`.
 pub fn changes_are_told()
     ensures { (a : RequestContent) (found : Option FileText) (s : SessionState)
         → IsWatched a s (turn a found s).state → IsTold s (turn a found s).events (turn a found s).state }

@@ -7,6 +7,5 @@
 
 pub mod laws;
 mod prompt;
-mod reply;
 pub mod session;
 pub mod settings;

@@ -7,7 +7,7 @@ ghost use Rattle.dap_session.specs.Turns.{turn_of, refusing};
 ghost use Rattle.dap_session.specs.Requests as requests;
 ghost use Rattle.dap_session.specs.Requests.{turn, asking, asking_unless, objection, replying};
 ghost use Rattle.dap_session.specs.Slices.{told_in, request_told};
-ghost use Rattle.dap_session.specs.Represents.{RepresentsSession, RepliesAs, TellsAs, TellsFor};
+ghost use Rattle.dap_session.specs.Represents.{RepresentsSession, RepliesAs, TellsAs};
 
 mod breakpoints;
 mod evaluations;
@@ -15,13 +15,15 @@ mod launches;
 mod memory;
 mod requests;
 mod slices;
+mod targets;
 
-use crate::reply::{Reply, refuse};
 use crate::settings::{NO_EVENTS, SessionSettings};
 use base_text::sequence::Sequence;
 use dap_editor::message::Message;
 use dap_editor::request::{EditorCommand, EditorRequest, RequestContent};
 use dap_launch::file::FileText;
+use dap_launch::life::NO_FILTERS;
+use dap_launch::reply::{Reply, refuse};
 use dap_points::points::WantedBreakpoints;
 use dap_program::messages::{Messages, RequestId};
 use lab_core::lab::Lab;
@@ -71,6 +73,7 @@ impl Session {
                 supported: NO_EVENTS,
                 program: None,
                 points,
+                filters: NO_FILTERS,
                 waits: false,
                 has_ended: false,
             },
@@ -78,15 +81,14 @@ impl Session {
     }
 
     /// Answers a request: returns its response and the events behind it. `file` is what was found at the
-    /// path that the request needs (`wanted_file`). If memory runs out the session stays as it was; but of
-    /// the bytes of a `writeMemory` some may be written then, from the first on.
+    /// path that the request needs (`wanted_file`). If memory runs out the session stays as it was.
     pub fn take(
         &mut self,
         alloc: Global,
         request: EditorRequest,
         file: Option<FileText>,
     ) -> Result<Sequence<Message>, AllocError>
-        ensures { TellsFor request.asked (request_told request file) self.old result self.new }
+        ensures { TellsAs (request_told request file) self.old result self.new }
     {
         let EditorRequest {
             seq,
@@ -109,8 +111,7 @@ impl Session {
         asked: &RequestContent,
         file: &Option<FileText>,
     ) -> Result<Sequence<Message>, AllocError>
-        ensures { TellsFor asked.now (λ s. told_in caller
-            (turn asked.now file.now s)) self.old result self.new }
+        ensures { TellsAs (λ s. told_in caller (turn asked.now file.now s)) self.old result self.new }
     {
         let messages = self.answer_unless(alloc, caller, asked, file)?;
         self.settings.waits = false;
@@ -118,7 +119,6 @@ impl Session {
     }
 
     // Answers a request, or refuses it if there is an objection.
-    #[tactic(auto, using(crate::proofs::SessionLemmas::tells_for))]
     fn answer_unless(
         &mut self,
         alloc: Global,
@@ -126,7 +126,7 @@ impl Session {
         asked: &RequestContent,
         file: &Option<FileText>,
     ) -> Result<Sequence<Message>, AllocError>
-        ensures { TellsFor asked.now (λ s. told_in caller
+        ensures { TellsAs (λ s. told_in caller
             (asking_unless (objection asked.now s) asked.now file.now s))
             self.old result self.new }
     {
@@ -159,7 +159,6 @@ impl Session {
     }
 
     // Answers a request to which there is no objection.
-    #[tactic(auto, using(crate::proofs::SessionLemmas::tells_for))]
     fn answer(
         &mut self,
         alloc: Global,
@@ -168,21 +167,13 @@ impl Session {
         file: &Option<FileText>,
     ) -> Result<Sequence<Message>, AllocError>
         requires { is_bounded asked.now ≡ true }
-        ensures { TellsFor asked.now (λ s. told_in caller
-            (asking asked.now file.now s)) self.old result self.new }
+        ensures { TellsAs (λ s. told_in caller (asking asked.now file.now s)) self.old result self.new }
     {
         match asked {
             RequestContent::Editor(EditorCommand::Launch(launch)) => self.launch(
                 alloc, caller, launch, file,
             ),
             RequestContent::Editor(EditorCommand::Restart) => self.restart(alloc, caller, file),
-            RequestContent::Editor(
-                EditorCommand::WriteMemory {
-                    address,
-                    offset,
-                    bytes,
-                },
-            ) => self.write_memory(alloc, caller, *address, *offset, bytes),
             _ => self.reply_to(alloc, caller, asked),
         }
     }

@@ -1,6 +1,6 @@
 //! What an editor asked for so far.
 
-use dap_editor::request::SupportedEvents;
+use dap_editor::request::{ExceptionFilters, SupportedEvents};
 use dap_launch::program::Program;
 use dap_points::points::WantedBreakpoints;
 
@@ -17,6 +17,8 @@ pub struct SessionSettings {
     pub supported: SupportedEvents,
     pub program: Option<Program>,
     pub points: WantedBreakpoints,
+    /// The ends at which a run is to be held.
+    pub filters: ExceptionFilters,
     /// The last slice ended where the run waits for a button, and no request has come since.
     pub waits: bool,
     /// A `disconnect` was answered.
@@ -32,6 +34,7 @@ impl Drop for SessionSettings {
             supported: _,
             program: _,
             points: _,
+            filters: _,
             waits: _,
             has_ended: _,
         } = self;

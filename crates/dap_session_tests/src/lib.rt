@@ -8,3 +8,5 @@
 mod plays;
 #[cfg(test)]
 mod rows;
+#[cfg(test)]
+mod travel;

@@ -8,10 +8,13 @@ const RUN: &str = r#"
 continue
   0 "continue" false "not initialized"
 initialize
-  1 "initialize" true {"supportsConfigurationDoneRequest":true,"supportsDisassembleRequest":true,
+  1 "initialize" true {"exceptionBreakpointFilters":[{"default":true,"filter":"undefined",
+    "label":"Undefined opcodes"},{"default":false,"filter":"halt","label":"HLT"}],
+    "supportsConfigurationDoneRequest":true,"supportsDisassembleRequest":true,
     "supportsEvaluateForHovers":true,"supportsExceptionInfoRequest":true,
-    "supportsFunctionBreakpoints":true,"supportsLoadedSourcesRequest":true,
-    "supportsReadMemoryRequest":true,"supportsRestartRequest":true,"supportsSetVariable":true,
+    "supportsFunctionBreakpoints":true,"supportsGotoTargetsRequest":true,
+    "supportsLoadedSourcesRequest":true,"supportsReadMemoryRequest":true,
+    "supportsRestartRequest":true,"supportsSetVariable":true,
     "supportsSteppingGranularity":true,"supportsTerminateRequest":true,"supportsWriteMemoryRequest":true}
 initialize
   2 "initialize" false "initialized already"
@@ -47,10 +50,13 @@ loadedSources
 /// Steps, evaluations and memory, from a stop at the entry to HLT.
 const STEPS: &str = r#"
 initialize
-  0 "initialize" true {"supportsConfigurationDoneRequest":true,"supportsDisassembleRequest":true,
+  0 "initialize" true {"exceptionBreakpointFilters":[{"default":true,"filter":"undefined",
+    "label":"Undefined opcodes"},{"default":false,"filter":"halt","label":"HLT"}],
+    "supportsConfigurationDoneRequest":true,"supportsDisassembleRequest":true,
     "supportsEvaluateForHovers":true,"supportsExceptionInfoRequest":true,
-    "supportsFunctionBreakpoints":true,"supportsLoadedSourcesRequest":true,
-    "supportsReadMemoryRequest":true,"supportsRestartRequest":true,"supportsSetVariable":true,
+    "supportsFunctionBreakpoints":true,"supportsGotoTargetsRequest":true,
+    "supportsLoadedSourcesRequest":true,"supportsReadMemoryRequest":true,
+    "supportsRestartRequest":true,"supportsSetVariable":true,
     "supportsSteppingGranularity":true,"supportsTerminateRequest":true,"supportsWriteMemoryRequest":true}
 configurationDone
   1 "configurationDone" true {}
@@ -101,10 +107,13 @@ continue
 /// Programs that can't be loaded, a pause, restarts, and the ends of a program.
 const ENDS: &str = r#"
 initialize
-  0 "initialize" true {"supportsConfigurationDoneRequest":true,"supportsDisassembleRequest":true,
+  0 "initialize" true {"exceptionBreakpointFilters":[{"default":true,"filter":"undefined",
+    "label":"Undefined opcodes"},{"default":false,"filter":"halt","label":"HLT"}],
+    "supportsConfigurationDoneRequest":true,"supportsDisassembleRequest":true,
     "supportsEvaluateForHovers":true,"supportsExceptionInfoRequest":true,
-    "supportsFunctionBreakpoints":true,"supportsLoadedSourcesRequest":true,
-    "supportsReadMemoryRequest":true,"supportsRestartRequest":true,"supportsSetVariable":true,
+    "supportsFunctionBreakpoints":true,"supportsGotoTargetsRequest":true,
+    "supportsLoadedSourcesRequest":true,"supportsReadMemoryRequest":true,
+    "supportsRestartRequest":true,"supportsSetVariable":true,
     "supportsSteppingGranularity":true,"supportsTerminateRequest":true,"supportsWriteMemoryRequest":true}
 launch {"program":"count.asm"} < slip
   1 "launch" false "2:12 Undefined"
@@ -151,10 +160,13 @@ disconnect
 /// Runs that are held at their ends, and how they end then.
 const HELD: &str = r#"
 initialize
-  0 "initialize" true {"supportsConfigurationDoneRequest":true,"supportsDisassembleRequest":true,
+  0 "initialize" true {"exceptionBreakpointFilters":[{"default":true,"filter":"undefined",
+    "label":"Undefined opcodes"},{"default":false,"filter":"halt","label":"HLT"}],
+    "supportsConfigurationDoneRequest":true,"supportsDisassembleRequest":true,
     "supportsEvaluateForHovers":true,"supportsExceptionInfoRequest":true,
-    "supportsFunctionBreakpoints":true,"supportsLoadedSourcesRequest":true,
-    "supportsReadMemoryRequest":true,"supportsRestartRequest":true,"supportsSetVariable":true,
+    "supportsFunctionBreakpoints":true,"supportsGotoTargetsRequest":true,
+    "supportsLoadedSourcesRequest":true,"supportsReadMemoryRequest":true,
+    "supportsRestartRequest":true,"supportsSetVariable":true,
     "supportsSteppingGranularity":true,"supportsTerminateRequest":true,"supportsWriteMemoryRequest":true}
 launch {"program":"count.asm","stopAtEnd":1} < undefined
   1 "launch" false "bad arguments"
@@ -218,10 +230,13 @@ next {"threadId":1}
 /// A run at its end is terminated, and without debugging none is held there.
 const UNHELD: &str = r#"
 initialize
-  0 "initialize" true {"supportsConfigurationDoneRequest":true,"supportsDisassembleRequest":true,
+  0 "initialize" true {"exceptionBreakpointFilters":[{"default":true,"filter":"undefined",
+    "label":"Undefined opcodes"},{"default":false,"filter":"halt","label":"HLT"}],
+    "supportsConfigurationDoneRequest":true,"supportsDisassembleRequest":true,
     "supportsEvaluateForHovers":true,"supportsExceptionInfoRequest":true,
-    "supportsFunctionBreakpoints":true,"supportsLoadedSourcesRequest":true,
-    "supportsReadMemoryRequest":true,"supportsRestartRequest":true,"supportsSetVariable":true,
+    "supportsFunctionBreakpoints":true,"supportsGotoTargetsRequest":true,
+    "supportsLoadedSourcesRequest":true,"supportsReadMemoryRequest":true,
+    "supportsRestartRequest":true,"supportsSetVariable":true,
     "supportsSteppingGranularity":true,"supportsTerminateRequest":true,"supportsWriteMemoryRequest":true}
 launch {"program":"count.asm","stopAtEnd":true,"noDebug":true} < undefined
   1 "launch" true {}
@@ -240,10 +255,13 @@ continue
 /// Changes by hand, for an editor that understands what is told of them.
 const CHANGES: &str = r#"
 initialize {"supportsInvalidatedEvent":true,"supportsMemoryEvent":true}
-  0 "initialize" true {"supportsConfigurationDoneRequest":true,"supportsDisassembleRequest":true,
+  0 "initialize" true {"exceptionBreakpointFilters":[{"default":true,"filter":"undefined",
+    "label":"Undefined opcodes"},{"default":false,"filter":"halt","label":"HLT"}],
+    "supportsConfigurationDoneRequest":true,"supportsDisassembleRequest":true,
     "supportsEvaluateForHovers":true,"supportsExceptionInfoRequest":true,
-    "supportsFunctionBreakpoints":true,"supportsLoadedSourcesRequest":true,
-    "supportsReadMemoryRequest":true,"supportsRestartRequest":true,"supportsSetVariable":true,
+    "supportsFunctionBreakpoints":true,"supportsGotoTargetsRequest":true,
+    "supportsLoadedSourcesRequest":true,"supportsReadMemoryRequest":true,
+    "supportsRestartRequest":true,"supportsSetVariable":true,
     "supportsSteppingGranularity":true,"supportsTerminateRequest":true,"supportsWriteMemoryRequest":true}
 evaluate {"expression":"switches 4","context":"repl"}
   1 "evaluate" true {"result":"ok","variablesReference":0}
@@ -297,10 +315,13 @@ initialize {"supportsMemoryEvent":"yes"}
 continue
   1 "continue" false "not initialized"
 initialize {"supportsInvalidatedEvent":false,"supportsMemoryEvent":true}
-  2 "initialize" true {"supportsConfigurationDoneRequest":true,"supportsDisassembleRequest":true,
+  2 "initialize" true {"exceptionBreakpointFilters":[{"default":true,"filter":"undefined",
+    "label":"Undefined opcodes"},{"default":false,"filter":"halt","label":"HLT"}],
+    "supportsConfigurationDoneRequest":true,"supportsDisassembleRequest":true,
     "supportsEvaluateForHovers":true,"supportsExceptionInfoRequest":true,
-    "supportsFunctionBreakpoints":true,"supportsLoadedSourcesRequest":true,
-    "supportsReadMemoryRequest":true,"supportsRestartRequest":true,"supportsSetVariable":true,
+    "supportsFunctionBreakpoints":true,"supportsGotoTargetsRequest":true,
+    "supportsLoadedSourcesRequest":true,"supportsReadMemoryRequest":true,
+    "supportsRestartRequest":true,"supportsSetVariable":true,
     "supportsSteppingGranularity":true,"supportsTerminateRequest":true,"supportsWriteMemoryRequest":true}
 initialize {"supportsInvalidatedEvent":true}
   3 "initialize" false "initialized already"

@@ -55,6 +55,17 @@ MAIN:  MVI A,42H
        END MAIN
 ";
 
+/// Writes the first two bytes that are typed.
+const ECHO: &str = "\
+       ORG 100H
+MAIN:  IN 1
+       OUT 1
+       IN 1
+       OUT 1
+       HLT
+       END MAIN
+";
+
 const SLIP: &str = "\
        ORG 100H
 MAIN:  JMP NOWHERE
@@ -67,6 +78,7 @@ fn program(name: &str) -> Option<&'static str> {
         "loop" => Some(LOOP),
         "calls" => Some(CALLS),
         "undefined" => Some(UNDEFINED),
+        "echo" => Some(ECHO),
         "slip" => Some(SLIP),
         "end" => Some("  END\n"),
         _ => None,

@@ -7,19 +7,19 @@ ghost use Rattle.dap_points.specs.Points.{number_of, has_place, with_lines};
 ghost use Rattle.dap_points.specs.Placed.{line_points};
 ghost use Rattle.dap_session.specs.Represents.{RepresentsSession, RepliesAs, LabelsPlaced};
 
-use crate::reply::{Reply, succeed};
 use crate::session::Session;
 use base_text::sequence::Sequence;
 use base_text::text::Text;
 use dap_editor::message::{EditorBody, PlacedBreakpoint};
 use dap_launch::program::Program;
+use dap_launch::reply::{Reply, succeed};
 use dap_points::placed::line_points;
 use dap_program::breakpoints::{arm, labels_behind};
 use dap_program::messages::FollowUp;
 use std::alloc::{AllocError, Global};
 
 // The program, if it was launched with this path.
-fn program_at<'a>(path: &str, program: &'a Option<Program>) -> Option<&'a Program>
+pub(super) fn program_at<'a>(path: &str, program: &'a Option<Program>) -> Option<&'a Program>
     ensures { option_map (λ p. p.now) result ≡ program_at path.now program.now }
 {
     match program {

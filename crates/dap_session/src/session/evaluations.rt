@@ -7,7 +7,6 @@ ghost use Rattle.dap_inspect.specs.Expressions.{message_of};
 ghost use Rattle.dap_session.specs.Represents.{RepliesAs};
 
 use crate::prompt::{PromptCommand, prompt_command};
-use crate::reply::{Reply, succeed};
 use crate::session::Session;
 use crate::session::requests::refuse_for;
 use base_text::text::Text;
@@ -16,6 +15,7 @@ use dap_editor::message::{EditorBody, EditorOutcome};
 use dap_editor::request::EvaluateContext;
 use dap_inspect::expression::evaluate;
 use dap_inspect::fault::EvaluateFault;
+use dap_launch::reply::{Reply, succeed};
 use dap_program::messages::FollowUp;
 use dap_talk::command::DapCommand;
 use std::alloc::{AllocError, Global};

@@ -2,16 +2,13 @@
 ghost use Rattle.std.specs.Prelude.{◌≡◌, Some, OnErr, IfOk};
 ghost use Rattle.lab_core.specs.Board.{Board};
 ghost use Rattle.lab_core.specs.Labs.{RepresentsBoard};
-ghost use Rattle.dap_launch.specs.declared.program.Program.{Program as ProgramOf};
 ghost use Rattle.dap_program.specs.Boards.{RepresentsSomeBoard};
-ghost use Rattle.dap_session.specs.Launches as launches;
 ghost use Rattle.dap_session.specs.Launches.{beginning_where, started_follow, installing, loading, launching};
 ghost use Rattle.dap_session.specs.Launches.{restarting};
 ghost use Rattle.dap_session.specs.Slices.{told_by, told_in};
 ghost use Rattle.dap_session.specs.States.{SessionState, with_board, with_program};
-ghost use Rattle.dap_session.specs.Represents.{RepresentsSession, Replies, Tells, TellsAs};
+ghost use Rattle.dap_session.specs.Represents.{RepresentsSession, RepliesAs, Tells, TellsAs};
 
-use crate::reply::{Reply, accept};
 use crate::session::Session;
 use base_text::sequence::Sequence;
 use base_text::text::Text;
@@ -19,7 +16,10 @@ use dap_editor::message::Message;
 use dap_editor::request::Launch;
 use dap_launch::file::{FileText, text_in};
 use dap_launch::opening::{Opening, begun_follow, loaded_messages};
-use dap_launch::program::{LoadedProgram, Phase, Program, arm_program, begin_program, copy_launch};
+use dap_launch::program::{
+    LoadedProgram, Phase, Program, arm_program, begin_if, begin_program, copy_launch,
+};
+use dap_launch::reply::{Reply, accept};
 use dap_program::failure::failure;
 use dap_program::load::{LoadFault, Loaded, load};
 use dap_program::messages::{FollowUp, RequestId};
@@ -29,19 +29,18 @@ use std::alloc::{AllocError, Global};
 
 impl Session {
     // Begins the program, if one is loaded that hasn't begun.
-    pub(super) fn begin_where_loaded(&mut self) -> Reply
-        ensures { (s : SessionState) → RepresentsSession self.old s
-            → Replies (beginning_where s.settings.program s) result self.new }
+    pub(super) fn begin_where_loaded(&mut self, alloc: Global) -> Result<Reply, AllocError>
+        ensures { RepliesAs (λ s. beginning_where s.settings.program s) self.old result self.new }
     {
         match &mut self.settings.program {
-            None => accept(FollowUp::Nothing),
+            None => Ok(accept(FollowUp::Nothing)),
             Some(program) => match program.phase {
                 Phase::Loaded => {
-                    begin_program(&mut self.lab, program);
+                    begin_program(alloc, &mut self.lab, program)?;
                     program.phase = Phase::Begun;
-                    accept(begun_follow(LoadReason::Launch, &program.launch))
+                    Ok(accept(begun_follow(LoadReason::Launch, &program.launch)))
                 }
-                Phase::Begun | Phase::Held(_) | Phase::Over => accept(FollowUp::Nothing),
+                Phase::Begun | Phase::Held(_) | Phase::Over => Ok(accept(FollowUp::Nothing)),
             },
         }
     }
@@ -153,18 +152,7 @@ impl Session {
         self.settings.program = Some(program);
     }
 
-    // Begins a program that hasn't begun, if the configuration is done.
-    fn start(&mut self)
-        ensures { (s : SessionState) (p : ProgramOf) → RepresentsSession self.old s
-            → s.settings.program ≡ Some p
-            → p.phase ≡ Phase.Loaded → RepresentsSession self.new (launches.begin_if_configured p s) }
-    {
-        if self.settings.is_configured {
-            drop(self.begin_where_loaded());
-        }
-    }
-
-    // Puts a loaded program in the place of what was on the board, and begins it if the configuration is
+    // Puts a loaded program in the place of what was on the board, after it began if the configuration is
     // done. All messages are made before.
     fn install(
         &mut self,
@@ -175,7 +163,6 @@ impl Session {
         requires { RepresentsSomeBoard loaded.lab }
         ensures installed { (s : SessionState) (b : Board) → RepresentsSession self.old s
             → RepresentsBoard loaded.lab b
-            → loaded.program.phase ≡ Phase.Loaded
             → IfOk result (λ messages. Tells
             (told_in opening.caller (installing opening.cause loaded.program b s)) messages self.new) }
         ensures err { OnErr result (self.new ≡ self.old) }
@@ -187,8 +174,8 @@ impl Session {
             &loaded.program,
             &self.settings.points,
         )?;
+        begin_if(alloc, &mut loaded, self.settings.is_configured)?;
         self.put(loaded);
-        self.start();
         Ok(messages)
     }
 }

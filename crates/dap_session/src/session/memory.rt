@@ -1,26 +1,23 @@
 //! Memory and code.
-ghost use Rattle.std.specs.Prelude.{◌≡◌, ◌+◌, ◌-◌, ◌≤◌, length, take, true, Some, IfOk, OnOk, OnErr};
-ghost use Rattle.dap_program.specs.Memory.{with_bytes_at};
+ghost use Rattle.std.specs.Prelude.{◌≡◌, true, IfOk};
 ghost use Rattle.dap_program.specs.Bounds as bounds;
 ghost use Rattle.dap_session.specs.Memory.{first_line, memory_at, is_stopped};
 ghost use Rattle.dap_session.specs.Memory.{writing_from, writing};
-ghost use Rattle.dap_session.specs.Requests.{reading, disassembling};
-ghost use Rattle.dap_session.specs.States.{SessionState, with_board};
-ghost use Rattle.dap_session.specs.Turns.{turn_of};
-ghost use Rattle.dap_session.specs.Slices.{told_in};
-ghost use Rattle.dap_session.specs.Represents.{RepresentsSession, RepliesAs, Tells, TellsFor, WritesFirst};
+ghost use Rattle.dap_session.specs.Requests.{reading, disassembling, editing_memory};
+ghost use Rattle.dap_session.specs.States.{SessionState};
+ghost use Rattle.dap_session.specs.Represents.{RepresentsSession, RepliesAs};
 
-use crate::reply::{Reply, succeed};
 use crate::session::Session;
-use base_text::sequence::{Bytes, Sequence};
+use base_text::sequence::Bytes;
 use dap_answers::answer::Body;
-use dap_editor::message::{EditorBody, EditorOutcome, Message};
+use dap_editor::message::EditorBody;
 use dap_editor::request::{EditorCommand, RequestContent, SignedOffset};
 use dap_inspect::before::before_instructions;
 use dap_inspect::listing::code_lines;
 use dap_inspect::memory::read_memory;
-use dap_program::memory::{address_at, wrapped_at, writable, write_bytes};
-use dap_program::messages::{FollowUp, Messages, RequestId};
+use dap_launch::reply::{Reply, succeed};
+use dap_program::memory::{address_at, wrapped_at, writable};
+use dap_program::messages::FollowUp;
 use dap_program::refusals::board_refusal;
 use lab_core::fault::EventFault;
 use lab_core::run_state::RunState;
@@ -56,7 +53,7 @@ impl Session {
         }
     }
 
-    pub(super) fn read_memory(
+    fn read_memory(
         &mut self,
         alloc: Global,
         address: u16,
@@ -81,7 +78,7 @@ impl Session {
         }
     }
 
-    pub(super) fn disassemble(
+    fn disassemble(
         &mut self,
         alloc: Global,
         address: u16,
@@ -98,7 +95,7 @@ impl Session {
         Ok(succeed(body, FollowUp::Nothing))
     }
 
-    fn is_stopped(&self) -> bool
+    pub(super) fn is_stopped(&self) -> bool
         ensures { (s : SessionState) → RepresentsSession self.now s → result ≡ is_stopped s.board.run }
     {
         match self.lab.run_state() {
@@ -107,57 +104,76 @@ impl Session {
         }
     }
 
-    // Writes bytes from an address on.
-    fn write_from(&mut self, alloc: Global, start: u16, bytes: &[u8]) -> Result<(), AllocError>
-        requires { start + length bytes.now ≤ 65536 }
-        ensures ok { (s : SessionState) → RepresentsSession self.old s
-            → OnOk result (RepresentsSession self.new (with_board (with_bytes_at start bytes.now s.board)
-            s)) }
-        ensures err { (s : SessionState) → RepresentsSession self.old s
-            → OnErr result (WritesFirst start bytes.now s self.new) }
-    {
-        write_bytes(alloc, &mut self.lab, start, bytes)
-    }
-
-    // Writes as many bytes as there are addresses for. Room for the messages is made before.
+    // Writes as many bytes as there are addresses for.
     fn write_at(
         &mut self,
         alloc: Global,
-        caller: RequestId,
-        start: u16,
+        address: Option<u16>,
         bytes: &Bytes,
-    ) -> Result<Sequence<Message>, AllocError>
-        ensures made { (s : SessionState) → RepresentsSession self.old s → IfOk result (λ messages.
-            Tells (told_in caller (turn_of (writing_from (Some start) bytes.now s))) messages self.new) }
-        ensures err { (s : SessionState) → RepresentsSession self.old s
-            → OnErr result (WritesFirst start (take (65536 - start) bytes.now) s self.new) }
+    ) -> Result<Reply, AllocError>
+        ensures { RepliesAs (writing_from address bytes.now) self.old result self.new }
     {
-        let messages = Messages::new(alloc)?;
+        let Some(start) = address else {
+            return self.refuse_with(alloc, "there is no such address");
+        };
         let follow = self.change_follow();
         let all = writable(start, bytes.as_slice());
-        self.write_from(alloc, start, all)?;
-        let written = EditorOutcome::Success(EditorBody::Written(all.len() as u32));
-        Ok(messages.turn(caller, written, follow))
+        self.lab.write(start, all);
+        Ok(succeed(EditorBody::Written(all.len() as u32), follow))
     }
 
     // Writes bytes of a stopped run's memory, as many as there are addresses for.
-    pub(super) fn write_memory(
+    fn write_memory(
         &mut self,
         alloc: Global,
-        caller: RequestId,
         address: u16,
         offset: SignedOffset,
         bytes: &Bytes,
-    ) -> Result<Sequence<Message>, AllocError>
-        ensures { TellsFor (RequestContent.Editor (EditorCommand.WriteMemory address offset bytes.now))
-            (λ s. told_in caller (turn_of (writing address offset bytes.now s))) self.old result self.new }
+    ) -> Result<Reply, AllocError>
+        ensures { RepliesAs (writing address offset bytes.now) self.old result self.new }
     {
         if !self.is_stopped() {
-            return self.refuse(alloc, caller, board_refusal(EventFault::NotStopped));
+            return self.refuse_with(alloc, board_refusal(EventFault::NotStopped));
         }
-        match address_at(address, offset) {
-            None => self.refuse(alloc, caller, "there is no such address"),
-            Some(start) => self.write_at(alloc, caller, start, bytes),
+        self.write_at(alloc, address_at(address, offset), bytes)
+    }
+    // The commands that have to do with memory and code.
+    pub(super) fn edit_memory(
+        &mut self,
+        alloc: Global,
+        command: &EditorCommand,
+    ) -> Result<Reply, AllocError>
+        requires { bounds.is_bounded (RequestContent.Editor command.now) ≡ true }
+        ensures { RepliesAs (editing_memory command.now) self.old result self.new }
+    {
+        match command {
+            EditorCommand::ReadMemory {
+                address,
+                offset,
+                count,
+            } => self.read_memory(alloc, *address, *offset, *count),
+            EditorCommand::WriteMemory {
+                address,
+                offset,
+                bytes,
+            } => self.write_memory(alloc, *address, *offset, bytes),
+            EditorCommand::Disassemble {
+                address,
+                offset,
+                instruction_offset,
+                instruction_count,
+            } => {
+                self.disassemble(
+                    alloc,
+                    *address,
+                    *offset,
+                    *instruction_offset,
+                    *instruction_count,
+                )
+            }
+            EditorCommand::GotoTargets { path, line } => Ok(self.find_target(path, *line)),
+            EditorCommand::Goto { target } => self.go_to(alloc, *target),
+            _ => self.refuse_with(alloc, "unknown command"),
         }
     }
 }

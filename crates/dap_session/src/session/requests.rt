@@ -12,15 +12,15 @@ ghost use Rattle.dap_session.specs.Requests.{terminating, initializing, configur
 ghost use Rattle.dap_session.specs.Requests.{commanding, editing, replying, end_follow};
 ghost use Rattle.dap_session.specs.Represents.{RepresentsSession, RepliesAs, Replies};
 
-use crate::reply::{Reply, accept, refuse, succeed};
 use crate::session::Session;
 use crate::settings::NO_EVENTS;
 use base_text::sequence::Sequence;
 use dap_answers::answer::StopReason;
 use dap_board::perform::perform;
 use dap_editor::message::{EditorBody, EditorOutcome, EditorStop};
-use dap_editor::request::{EditorCommand, RequestContent, SupportedEvents};
+use dap_editor::request::{EditorCommand, ExceptionFilters, RequestContent, SupportedEvents};
 use dap_launch::life::{end_of, end_program, exception_of, is_live};
+use dap_launch::reply::{Reply, accept, refuse, succeed};
 use dap_program::bounds::{is_bounded, opens};
 use dap_program::change::change_surely;
 use dap_program::end::exit_code;
@@ -183,7 +183,7 @@ impl Session {
                 "attach is not supported: launch a program",
             ),
             DapCommand::Disconnect => Ok(self.disconnect()),
-            DapCommand::ConfigurationDone => Ok(self.configure()),
+            DapCommand::ConfigurationDone => self.configure(alloc),
             DapCommand::SetBreakpoints { path, lines } => self.set_lines(alloc, path, lines),
             DapCommand::BoardReset => self.reset(alloc),
             DapCommand::Continue | DapCommand::Step { .. } => self.resume(alloc, command),
@@ -199,37 +199,14 @@ impl Session {
             EditorCommand::Initialize(supported) => self.initialize(alloc, *supported),
             EditorCommand::Terminate => Ok(self.terminate()),
             EditorCommand::SetFunctionBreakpoints(names) => self.set_functions(alloc, names),
-            EditorCommand::SetExceptionBreakpoints => Ok(succeed(
-                EditorBody::Breakpoints(Sequence::new(alloc)),
-                FollowUp::Nothing,
-            )),
+            EditorCommand::SetExceptionBreakpoints(filters) => Ok(self.set_filters(*filters)),
             EditorCommand::ExceptionInfo => self.explain(alloc),
             EditorCommand::Evaluate {
                 expression,
                 context,
             } => self.evaluate(alloc, expression.as_str(), *context),
-            EditorCommand::ReadMemory {
-                address,
-                offset,
-                count,
-            } => self.read_memory(alloc, *address, *offset, *count),
-            EditorCommand::Disassemble {
-                address,
-                offset,
-                instruction_offset,
-                instruction_count,
-            } => {
-                self.disassemble(
-                    alloc,
-                    *address,
-                    *offset,
-                    *instruction_offset,
-                    *instruction_count,
-                )
-            }
             EditorCommand::LoadedSources => self.list_sources(alloc),
-            EditorCommand::Launch(_) | EditorCommand::Restart | EditorCommand::WriteMemory { .. } =>
-                self.refuse_with(alloc, "unknown command"),
+            _ => self.edit_memory(alloc, command),
         }
     }
 
@@ -244,6 +221,14 @@ impl Session {
         Ok(succeed(EditorBody::Capabilities, FollowUp::Nothing))
     }
 
+    fn set_filters(&mut self, filters: ExceptionFilters) -> Reply
+        ensures { (s : SessionState) → RepresentsSession self.old s
+            → Replies (editing (EditorCommand.SetExceptionBreakpoints filters) s) result self.new }
+    {
+        self.settings.filters = filters;
+        accept(FollowUp::Nothing)
+    }
+
     fn disconnect(&mut self) -> Reply
         ensures { (s : SessionState) → RepresentsSession self.old s
             → Replies (disconnecting s) result self.new }
@@ -252,12 +237,12 @@ impl Session {
         accept(FollowUp::Nothing)
     }
 
-    fn configure(&mut self) -> Reply
-        ensures { (s : SessionState) → RepresentsSession self.old s
-            → Replies (configuring s) result self.new }
+    fn configure(&mut self, alloc: Global) -> Result<Reply, AllocError>
+        ensures { RepliesAs configuring self.old result self.new }
     {
+        let reply = self.begin_where_loaded(alloc)?;
         self.settings.is_configured = true;
-        self.begin_where_loaded()
+        Ok(reply)
     }
 
     // The event behind the response to a request that ends the program.

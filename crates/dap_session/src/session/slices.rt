@@ -6,7 +6,7 @@ ghost use Rattle.dap_session.specs.Represents.{TellsAs};
 use crate::session::Session;
 use base_text::sequence::Sequence;
 use dap_editor::message::Message;
-use dap_launch::life::{note_end, policy_of};
+use dap_launch::life::{held_ends, note_end};
 use dap_program::slice::{Slice, make_slice};
 use lab_core::answer::SliceOutcome;
 use std::alloc::{AllocError, Global};
@@ -20,8 +20,8 @@ impl Session {
         if !self.wants_slice() {
             return Ok(Sequence::new(alloc));
         }
-        let policy = policy_of(&self.settings.program);
-        let slice = make_slice(alloc, &mut self.lab, policy)?;
+        let held = held_ends(self.settings.filters, &self.settings.program);
+        let slice = make_slice(alloc, &mut self.lab, held)?;
         let Slice { messages, outcome } = slice;
         self.leave(outcome);
         Ok(messages)
@@ -34,7 +34,9 @@ impl Session {
         match outcome {
             SliceOutcome::More | SliceOutcome::Stop(_) => {}
             SliceOutcome::Waiting => self.settings.waits = true,
-            SliceOutcome::End(end) => note_end(&mut self.settings.program, end),
+            SliceOutcome::End(end) => {
+                note_end(&mut self.settings.program, self.settings.filters, end)
+            }
         }
     }
 }

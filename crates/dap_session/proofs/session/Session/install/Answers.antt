@@ -1,16 +1,30 @@
-use Rattle.std.proofs.Common.{refl, sym, subst}
+use Rattle.std.proofs.Common.{◌∙◌, sym, ap, subst, Some}
 use Rattle.lab_core.specs.Labs.{RepresentsBoard}
 use Rattle.dap_session.specs.declared.settings.SessionSettings.{SessionSettings}
-use Rattle.dap_launch.specs.Programs.{program_board}
+use Rattle.dap_launch.specs.declared.program.Program.{Program}
+use Rattle.dap_launch.specs.Programs.{program_board, board_if, begun_if}
+use Rattle.dap_session.specs.States.{with_board, with_program}
 use Rattle.dap_session.specs.Represents.{RepresentsSession}
 use Rattle.dap_session.proofs.session.Session.install.Goals as goal
 
 pub returns-clause-installed : goal.returns-clause-installed
-returns-clause-installed c = λ s b represents on loaded.
+returns-clause-installed c = λ s b represents on.
     let viewed : RepresentsSession _ s = subst (λ v. RepresentsSession v s) (sym c.self.view_is) represents in
+    let p = c.args.loaded.program in
     let B : SessionSettings → Type 0 =
-    λ t. RepresentsBoard c.arm_program.new.lab (program_board c.args.loaded.program t.points b) in
-    let armed = subst B viewed.settings (c.in_ok-arm_program.ensures b on) in (
+    λ t. RepresentsBoard c.arm_program.new.lab (program_board p t.points b) in
+    let armed = subst B viewed.settings (c.in_ok-arm_program.ensures b on) in
+    let Q : SessionSettings → Type 0 =
+    λ t. RepresentsBoard c.begin_if.new.loaded.lab
+    (board_if t.is_configured p (program_board p s.settings.points b)) in
+    let begun = subst Q viewed.settings (c.in_ok-begin_if.ensures.board _ armed) in
+    let put = c.put.ensures s _ represents begun in
+    let program : Program = begun_if s.settings.is_configured p in
+    let is = c.in_ok-begin_if.ensures.program in
+    let R : Program → Type 0 =
+    λ q. RepresentsSession c.put.new.self
+    (with_board (board_if s.settings.is_configured p (program_board p s.settings.points b))
+    (with_program (Some q) s)) in (
       c.in_ok-messages.ensures s b represents on,
-      c.start.ensures _ c.args.loaded.program (c.put.ensures s _ represents armed) refl loaded,
+      subst R (is ∙ ap (λ (t : SessionSettings). begun_if t.is_configured p) viewed.settings) put,
     )

@@ -3,7 +3,7 @@ use Rattle.dap_editor.specs.declared.message.EditorBody.TheVariants.{Breakpoints
 use Rattle.dap_editor.specs.declared.message.EditorOutcome.TheVariants.{Success}
 use Rattle.dap_editor.specs.declared.message.PlacedBreakpoint.{PlacedBreakpoint}
 use Rattle.dap_points.specs.Points.{has_place, with_lines}
-use Rattle.dap_session.specs.declared.reply.Reply.{Reply}
+use Rattle.dap_launch.specs.declared.reply.Reply.{Reply}
 use Rattle.dap_session.specs.States.{with_points}
 use Rattle.dap_session.specs.Breakpoints.{lines_armed}
 use Rattle.dap_session.specs.Represents.{SessionFields, RepresentsSession}

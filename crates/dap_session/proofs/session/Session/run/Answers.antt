@@ -6,7 +6,7 @@ use Rattle.dap_session.proofs.session.Session.run.Goals as goal
 pub invariant_of-self-2 : goal.invariant_of-self-2
 invariant_of-self-2 c =
     let on : c.wants_slice.result ≡ true = search rules in
-    stands_sliced c.policy_of-policy.result c.args.self.now c.self.inside.lab _ c.wants_slice.result
+    stands_sliced c.held_ends-held.result c.args.self.now c.self.inside.lab _ c.wants_slice.result
     c.in_ok-slice.slice
     (ap (λ (v : SessionFields). v.lab) c.self.view_is) c.wants_slice.ensures on c.in_ok-slice.ensures.made
     c.self.invariant

@@ -14,7 +14,8 @@ pub struct Reply {
     pub follow: FollowUp,
 }
 
-pub(crate) fn refuse(alloc: Global, text: &str) -> Result<Reply, AllocError>
+/// The reply that refuses a request with this text.
+pub fn refuse(alloc: Global, text: &str) -> Result<Reply, AllocError>
     ensures { IfOk result (λ reply. reply
         ≡ record { outcome = EditorOutcome.Refused text.now; follow = FollowUp.Nothing }) }
 {
@@ -25,7 +26,8 @@ pub(crate) fn refuse(alloc: Global, text: &str) -> Result<Reply, AllocError>
     })
 }
 
-pub(crate) fn succeed(body: EditorBody, follow: FollowUp) -> Reply
+/// A success with this body.
+pub fn succeed(body: EditorBody, follow: FollowUp) -> Reply
     ensures { result ≡ record { outcome = EditorOutcome.Success body; follow = follow } }
 {
     Reply {
@@ -34,8 +36,8 @@ pub(crate) fn succeed(body: EditorBody, follow: FollowUp) -> Reply
     }
 }
 
-// A success with an empty body.
-pub(crate) fn accept(follow: FollowUp) -> Reply
+/// A success with an empty body.
+pub fn accept(follow: FollowUp) -> Reply
     ensures { result ≡ record {
       outcome = EditorOutcome.Success (EditorBody.Board Body.Empty);
       follow = follow;

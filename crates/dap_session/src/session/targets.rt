@@ -1,0 +1,53 @@
+//! Lines to which PC can be set.
+ghost use Rattle.std.specs.Prelude.{◌≡◌};
+ghost use Rattle.dap_session.specs.Breakpoints.{program_at};
+ghost use Rattle.dap_session.specs.States.{SessionState};
+ghost use Rattle.dap_session.specs.Targets as targets;
+ghost use Rattle.dap_session.specs.Targets.{finding_target, going_to};
+ghost use Rattle.dap_session.specs.Represents.{RepresentsSession, Replies, RepliesAs};
+
+use crate::session::Session;
+use crate::session::breakpoints::program_at;
+use base_text::text::Text;
+use dap_editor::message::{EditorBody, EditorStop, GotoTarget};
+use dap_launch::life::release_program;
+use dap_launch::reply::{Reply, accept, succeed};
+use dap_program::change::set_pc;
+use dap_program::messages::FollowUp;
+use dap_program::refusals::board_refusal;
+use dap_program::target::first_target;
+use lab_core::fault::EventFault;
+use std::alloc::{AllocError, Global};
+
+impl Session {
+    fn target_in(&self, path: &Text, line: u32) -> Option<GotoTarget>
+        ensures { (s : SessionState) → RepresentsSession self.now s
+            → result ≡ targets.target_in (program_at path.now s.settings.program) line s.board }
+    {
+        match program_at(path.as_str(), &self.settings.program) {
+            None => None,
+            Some(_) => first_target(&self.lab, line),
+        }
+    }
+
+    // The target of a line.
+    pub(super) fn find_target(&self, path: &Text, line: u32) -> Reply
+        ensures { (s : SessionState) → RepresentsSession self.now s
+            → Replies (finding_target path.now line s) result self.now }
+    {
+        let target = self.target_in(path, line);
+        succeed(EditorBody::Targets(target), FollowUp::Nothing)
+    }
+
+    // Sets PC, only while a run is stopped.
+    pub(super) fn go_to(&mut self, alloc: Global, target: u16) -> Result<Reply, AllocError>
+        ensures { RepliesAs (going_to target) self.old result self.new }
+    {
+        if !self.is_stopped() {
+            return self.refuse_with(alloc, board_refusal(EventFault::NotStopped));
+        }
+        set_pc(&mut self.lab, target);
+        release_program(&mut self.settings.program);
+        Ok(accept(FollowUp::Stopped(EditorStop::Goto)))
+    }
+}
