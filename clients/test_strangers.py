@@ -16,6 +16,12 @@ from zmtp import SOCKET_TYPES, Peer, greeting, message, ready
 # The channels, and the number of strangers at once on each, one after the other.
 CHANNELS, AT_ONCE = ("shell", "iopub", "stdin", "control"), 5
 
+# As many connections as a channel has places.
+PLACES = 16
+
+# The number of subscriptions that are accepted at once, about, and of those that follow.
+FREE, THROTTLED = 65_000, 1_500
+
 # The seconds of the flood, and the seconds between requests of the client with the key.
 FLOOD, PAUSE = 5, 0.02
 
@@ -121,29 +127,74 @@ class Strangers(unittest.TestCase):
         # The first 65,536 are accepted as they come, further ones are throttled to a few hundred a second.
         with Peer(self.connection, "iopub") as subscriber, Peer(self.connection, "shell") as shell:
             subscriber.greet()
+            subscriber.stream.settimeout(60)
             shell.greet()
-            for _ in range(65):
-                subscriber.say(message(b"\x00x") * 1000)
             began = time.monotonic()
-            subscriber.say(message(b"\x00x") * 1000 + message(b"\x01status"))
-            self.assertTrue(shell.is_served())
+            subscriber.say(message(b"\x00x") * FREE + message(b"\x01status"))
             self.assertTrue(subscriber.receive_message()[0].startswith(b"status"))
-            self.assertGreater(time.monotonic() - began, 1)
+            free, began = time.monotonic() - began, time.monotonic()
+            subscriber.say(message(b"\x00x") * THROTTLED + message(b"\x01status"))
+            self.assertTrue(shell.is_served())
+            # Two statuses of that request, and the one for the last subscription.
+            for _ in range(3):
+                self.assertTrue(subscriber.receive_message()[0].startswith(b"status"))
+            throttled = time.monotonic() - began
+        self.assertGreater(throttled, 1)
+        self.assertGreater(throttled / THROTTLED, 4 * free / FREE)
+
+    def come(self, channel, until):
+        """Whether a peer is served by then that has the identity of all others here. While the kernel hasn't noticed that the last
+        one is gone, it refuses the next."""
+        while time.monotonic() < until:
+            with Peer(self.connection, channel) as peer:
+                try:
+                    peer.say(greeting() + ready(SOCKET_TYPES[channel], (b"Identity", b"the same")))
+                    peer.receive(64)
+                    peer.receive_message()
+                    return peer.is_served()
+                except ConnectionError:
+                    time.sleep(0.01)
+        return False
+
+    def test_a_peer_that_is_gone_leaves_its_place_and_its_identity(self):
+        for channel in ("shell", "iopub", "control"):
+            for number in range(PLACES + 2):
+                self.assertTrue(self.come(channel, time.monotonic() + 3), f"{channel}, peer {number}")
 
     def naps(self):
-        """How often threads of the kernel, which has its shell's process id, went to sleep."""
-        naps = 0
+        """How often each thread of the kernel, which has its shell's process id, went to sleep."""
+        naps = {}
         for path in glob.glob(f"/proc/{self.kernel.pid}/task/*/status"):
             with open(path, encoding="ascii") as file:
-                naps += sum(int(line.split()[1]) for line in file if line.startswith("voluntary_ctxt_switches"))
+                naps[path] = sum(int(line.split()[1]) for line in file if line.startswith("voluntary_ctxt_switches"))
         return naps
 
-    def test_an_idle_kernel_enters_nothing(self):
-        # An entry takes a thread that wakes, and sleeps again.
-        peers = [self.enterContext(Peer(self.connection, channel)).greet() for channel in SOCKET_TYPES for _ in range(16)]
+    def woken_since(self, before):
+        """How many threads have gone to sleep since then."""
+        return sum(naps != before.get(thread) for thread, naps in self.naps().items())
+
+    def fill(self):
+        """As many peers of each channel as it has places, all served."""
+        peers = [self.enterContext(Peer(self.connection, channel)).greet() for channel in SOCKET_TYPES for _ in range(PLACES)]
         for peer in peers:
             self.assertTrue(peer.is_served())
         time.sleep(1)
+        return peers
+
+    def test_an_idle_kernel_enters_nothing(self):
+        # An entry takes a thread that wakes, and sleeps again.
+        self.fill()
         before = self.naps()
         time.sleep(2)
-        self.assertEqual(self.naps(), before)
+        self.assertEqual(self.woken_since(before), 0)
+
+    def test_a_request_wakes_its_own_writer_and_those_of_iopub(self):
+        peers = self.fill()
+        before = self.naps()
+        # Fewer than the 256 requests after which all are woken.
+        for peer in peers:
+            if peer.channel == "shell":
+                self.assertTrue(peer.is_served())
+        time.sleep(0.5)
+        # Each connection of shell has a reader and a writer, and each of iopub a writer.
+        self.assertEqual(self.woken_since(before), 3 * PLACES)

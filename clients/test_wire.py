@@ -71,6 +71,8 @@ class Wire(Lab):
             for peer in quiet:
                 self.assertFalse(peer.is_ended(0.2), peer.channel)
                 self.assertTrue(peer.is_served(), peer.channel)
+            # One that comes now is sent the posts from its Join on.
+            self.assertTrue(stack.enter_context(Peer(self.connection, "shell")).greet().is_served())
 
     def test_four_who_ask_64_times_each_while_a_cell_runs(self):
         self.run_endless()

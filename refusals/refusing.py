@@ -31,13 +31,13 @@ def build(*crates):
 
 
 @contextmanager
-def refuser():
-    """The library to preload, built from refuse.c."""
+def refuser(name="refuse"):
+    """The library to preload, built from refuse.c, or from another file beside this one."""
     tools = KIT / "toolchain/bin"
     with tempfile.TemporaryDirectory() as place:
-        library = Path(place) / "refuse.so"
+        library = Path(place) / f"{name}.so"
         words = [tools / "clang", "-O2", "-Wall", "-shared", "-fPIC", "-nostdlib", f"--ld-path={tools}/ld.lld"]
-        subprocess.run([*words, "-o", library, Path(__file__).parent / "refuse.c"], check=True)
+        subprocess.run([*words, "-o", library, Path(__file__).parent / f"{name}.c"], check=True)
         yield library
 
 

@@ -1,9 +1,10 @@
-//! A connection that breaks off.
+//! Connections that break off.
 
-use crate::bytes::{FIRST_BYTES, HELLO_BYTES, RUNS};
-use crate::replay::Script;
+use crate::bytes::{DEALER, GREETING, HEARS, PUB, ROUTER, RUNS, SUB};
+use crate::gates::Plan;
+use crate::guests::{AT_ONCE, guest_of, serve, was_sent};
+use crate::replay::{Ask, Posts, Script};
 use crate::signals::Signals;
-use crate::visits::{guest_of, serve};
 use jup_wire::channel::Channel;
 use kern_core::call::Call;
 use kern_desk::seated::Seated;
@@ -16,15 +17,53 @@ use std::sync::Wait;
 use std::thread::Threads;
 use zmtp_wire::peer_fault::PeerFault;
 
-// How often a gate is polled before it says no.
-const POLLS: u64 = 2;
+// A gate says no after a few polls.
+const PLAN: Plan = Plan {
+    polls: 2,
+    over: u32::MAX,
+    holds: false,
+};
 
 // The most entries that are looked at.
 const MOST: usize = 1000;
 
-// How the visit ends if the connection breaks off after this many bytes.
-fn end_behind(count: usize) -> VisitEnd {
-    if count < HELLO_BYTES {
+// One that asks for two things, and one that subscribes.
+const ASKS: Script = Script {
+    channel: Channel::Shell,
+    hello: DEALER,
+    bytes: RUNS,
+    after: AT_ONCE,
+    asks: &[
+        Ask("m-1", "kernel_info_request", "{}"),
+        Ask(
+            "m-2",
+            "execute_request",
+            "{\"code\":\"MVI A,7\\nHLT\\nEND\"}",
+        ),
+    ],
+};
+
+const HEARS_ALL: Script = Script {
+    channel: Channel::Iopub,
+    hello: SUB,
+    bytes: HEARS,
+    after: AT_ONCE,
+    asks: &[],
+};
+
+// The script of a guest that breaks off after this many bytes.
+fn front_of<R: Abort>(rt: &R, script: Script, count: usize) -> Script {
+    let hello = count.min(script.hello.len());
+    Script {
+        hello: script.hello.get(..hello).expect(rt, "a front"),
+        bytes: script.bytes.get(..count - hello).expect(rt, "a front"),
+        ..script
+    }
+}
+
+// How the visit ends then.
+fn end_behind(script: Script, count: usize) -> VisitEnd {
+    if count < script.hello.len() {
         return VisitEnd::NoHandshake(PeerFault::PeerEnded);
     }
     VisitEnd::Served(Ends {
@@ -34,31 +73,33 @@ fn end_behind(count: usize) -> VisitEnd {
     })
 }
 
-// How many Joins, requests and Leaves its reader's seat has made then.
-fn calls_behind(count: usize) -> [u32; 3] {
-    if count < HELLO_BYTES {
+// How many Joins, requests or subscriptions, and Leaves its reader's seat has made then. `ends` are the
+// numbers of bytes after the handshake at which a message ends.
+fn calls_behind(script: Script, ends: [usize; 2], count: usize) -> [u32; 3] {
+    let hello = script.hello.len();
+    if count < hello {
         return [0, 0, 0];
     }
-    if count < FIRST_BYTES {
-        return [1, 0, 1];
+    let mut asked = 0u32;
+    for end in ends {
+        if count - hello >= end {
+            asked = asked.saturating_add(1);
+        }
     }
-    if count < RUNS.len() {
-        return [1, 1, 1];
-    }
-    [1, 2, 1]
+    [1, asked, 1]
 }
 
 fn add(calls: &mut [u32; 3], call: &Call) {
     let kind: usize = match call {
         Call::Join { .. } => 0,
-        Call::Arrive { .. } => 1,
+        Call::Arrive { .. } | Call::Subscribe { .. } => 1,
         Call::Leave { .. } => 2,
-        Call::Subscribe { .. } | Call::Fetch { .. } | Call::Slice { .. } => return,
+        Call::Fetch { .. } | Call::Slice { .. } => return,
     };
     calls[kind] = calls[kind].saturating_add(1);
 }
 
-// How many Joins, requests and Leaves of a seat are in a journal.
+// How many of them are in a journal.
 fn calls_of(seated: &Seated, seat: u32) -> [u32; 3] {
     let mut calls = [0u32; 3];
     for place in 0..MOST {
@@ -72,30 +113,53 @@ fn calls_of(seated: &Seated, seat: u32) -> [u32; 3] {
     calls
 }
 
-fn visit_front<R: Threads + Wait + Clock + Abort + Sync>(rt: &R, alloc: Global, count: usize) {
-    let signals = Signals::new();
-    let script = Script {
-        channel: Channel::Shell,
-        bytes: RUNS.get(..count).expect(rt, "a front"),
-        heard: 0,
-        done: 0,
-        asks: &[],
+// What the kernel writes while there is no handshake: its greeting, and READY once the peer's greeting has
+// come.
+fn is_front_of_handshake(bytes: &[u8], channel: Channel, count: usize) -> bool {
+    if count < GREETING.len() {
+        return bytes == GREETING;
+    }
+    let ready = if channel == Channel::Iopub {
+        PUB
+    } else {
+        ROUTER
     };
-    let mut guests = [guest_of(rt, alloc, &signals, script, POLLS)];
-    let hosted = serve(rt, alloc, &mut guests, POLLS).expect(rt, "memory to begin");
-    let calls = calls_of(&hosted.seated, 0);
-    drop(hosted);
-    let has_ended = guests[0].end() == Some(end_behind(count));
-    let has_called = calls == calls_behind(count);
+    bytes.starts_with(GREETING) && bytes.get(GREETING.len()..) == Some(ready)
+}
+
+fn visit_front<R: Threads + Wait + Clock + Abort + Sync>(
+    rt: &R,
+    alloc: Global,
+    whole: Script,
+    ends: [usize; 2],
+    count: usize,
+) {
+    let signals = Signals::new();
+    let script = front_of(rt, whole, count);
+    let mut guests = [guest_of(rt, alloc, &signals, script, PLAN)];
+    let served = serve(rt, alloc, &mut guests, &signals, PLAN).expect(rt, "memory to begin");
+    let seated = &served.hosted.seated;
+    let has_called = calls_of(seated, 0) == calls_behind(whole, ends, count);
+    let bytes = guests[0].outlet().to.as_slice();
+    let is_sent = if count < whole.hello.len() {
+        is_front_of_handshake(bytes, whole.channel, count)
+    } else {
+        was_sent(rt, alloc, seated, &[script], (0, bytes), Posts::Fetched)
+    };
+    drop(served);
+    let has_ended = guests[0].end() == Some(end_behind(whole, count));
     assert!(rt; has_ended, "it ended otherwise behind {count} bytes");
     assert!(rt; has_called, "other calls were made behind {count} bytes");
+    assert!(rt; is_sent, "other bytes were sent behind {count} bytes");
 }
 
 #[test]
 fn a_guest_breaks_off_at_each_byte(rt: HostRuntime) {
     let alloc = rt.alloc();
-    for count in 0..RUNS.len() {
-        visit_front(&rt, alloc, count);
+    for count in 0..DEALER.len() + RUNS.len() + 1 {
+        visit_front(&rt, alloc, ASKS, [99, RUNS.len()], count);
     }
-    visit_front(&rt, alloc, RUNS.len());
+    for count in 0..SUB.len() + HEARS.len() + 1 {
+        visit_front(&rt, alloc, HEARS_ALL, [HEARS.len(), usize::MAX], count);
+    }
 }

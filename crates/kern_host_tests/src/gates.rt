@@ -1,4 +1,4 @@
-//! The gates of the threads. They wait a millisecond at each poll, and say no only if the test has failed.
+//! The gates of the threads. They wait a millisecond at each poll.
 ghost use Rattle.std.specs.Prelude.{◌≡◌, false};
 ghost use Rattle.kern_net.specs.Gates.{no_polls, with_answer};
 
@@ -12,24 +12,56 @@ use std::sync::Wait;
 /// The time at all gates, 2000-02-29T00:00:00Z.
 pub const MOMENT: u64 = 951_782_400;
 
+// The first two slices load a cell and start it; the next one is the first of its program.
+const SLICES_BEFORE: u64 = 2;
+
+/// When gates say no.
+#[derive(Clone, Copy)]
+pub struct Plan {
+    /// After how many polls they do at the latest.
+    pub polls: u64,
+    /// They say no once so many requests are done.
+    pub over: u32,
+    /// Whether the worker is held before the first slice of a program until they are.
+    pub holds: bool,
+}
+
 /// The worker's gate.
 #[derive(Drop)]
 pub struct WorkGate<'a, C: Clock> {
     polls: WorkerTally,
-    most: u64,
+    plan: Plan,
+    signals: &'a Signals,
     clock: &'a C,
+    // How many slices it has let through since it was idle.
+    busy: u64,
 }
 
 impl<'a, C: Clock> WorkGate<'a, C> {
-    /// A gate that hasn't been polled yet, whose `idle` says no after `most` times yes.
-    pub fn new(clock: &'a C, most: u64) -> WorkGate<'a, C>
+    /// A gate that hasn't been polled yet.
+    pub fn new(clock: &'a C, signals: &'a Signals, plan: Plan) -> WorkGate<'a, C>
         ensures { result.polls ≡ no_polls }
     {
         WorkGate {
             polls: WorkerTally::new(),
-            most,
+            plan,
+            signals,
             clock,
+            busy: 0,
         }
+    }
+
+    /// How many slices it has let through since it was idle, and how often `before` and `idle` said no.
+    pub fn answers(&self) -> [u64; 3] {
+        [self.busy, self.polls.before().no(), self.polls.idle().no()]
+    }
+
+    fn lets_on(&self) -> bool {
+        if !self.plan.holds || self.busy != SLICES_BEFORE {
+            return true;
+        }
+        self.signals.held.give(1);
+        self.signals.done.comes(self.clock, self.plan.over)
     }
 }
 
@@ -37,13 +69,20 @@ impl<'a, C: Clock> WorkerGate for WorkGate<'a, C> {
     ghost polls = { λ g. g.polls };
 
     fn before<R: Wait>(&mut self, rt: &R, _slices: u64) -> bool {
-        self.polls.add_before_yes(rt);
-        true
+        if self.lets_on() {
+            self.busy = self.busy.saturating_add(1);
+            self.polls.add_before_yes(rt);
+            return true;
+        }
+        self.polls.add_before_no(rt);
+        false
     }
 
     fn idle<R: Wait>(&mut self, rt: &R) -> bool {
         rest(self.clock);
-        if self.polls.idle().yes() < self.most {
+        let is_over = self.signals.done.count() >= self.plan.over;
+        if !is_over && self.polls.idle().yes() < self.plan.polls {
+            self.busy = 0;
             self.polls.add_idle_yes(rt);
             return true;
         }
@@ -101,19 +140,24 @@ impl<'a> ReaderGate for InGate<'a> {
 #[derive(Drop)]
 pub struct OutGate<'a, C: Clock> {
     idle: Tally,
-    most: u64,
+    plan: Plan,
+    signals: &'a Signals,
     clock: &'a C,
+    // Whether so many requests were done before the last Fetch that it says no.
+    is_over: bool,
 }
 
 impl<'a, C: Clock> OutGate<'a, C> {
-    /// A gate that hasn't been polled yet, and says no after `most` times yes.
-    pub fn new(clock: &'a C, most: u64) -> OutGate<'a, C>
+    /// A gate that hasn't been polled yet.
+    pub fn new(clock: &'a C, signals: &'a Signals, plan: Plan) -> OutGate<'a, C>
         ensures { result.idle ≡ record { yes = 0; no = 0 } }
     {
         OutGate {
             idle: Tally::new(),
-            most,
+            plan,
+            signals,
             clock,
+            is_over: false,
         }
     }
 
@@ -130,7 +174,9 @@ impl<'a, C: Clock> WriterGate for OutGate<'a, C> {
 
     fn idle<R: Wait>(&mut self, rt: &R, _pass: &Pass, _next: u64) -> bool {
         rest(self.clock);
-        if self.idle.yes() < self.most {
+        let was_over = self.is_over;
+        self.is_over = self.signals.done.count() >= self.plan.over;
+        if !was_over && self.idle.yes() < self.plan.polls {
             self.idle.add_yes(rt);
             return true;
         }

@@ -2,11 +2,11 @@
 ghost use Rattle.std.specs.Prelude.{Some};
 ghost use Rattle.kern_host.specs.Guests.{AreOf};
 
-use crate::bytes::RUNS;
-use crate::gates::{InGate, OutGate};
+use crate::bytes::{DEALER, RUNS};
+use crate::gates::{InGate, OutGate, Plan};
+use crate::guests::{AT_ONCE, guest_of, is_handshake_and};
 use crate::replay::Script;
 use crate::signals::Signals;
-use crate::visits::{guest_of, is_handshake_and};
 use jup_wire::channel::Channel;
 use kern_desk::desks::{MOST_ENTRIES, open_desk};
 use kern_desk::seated::Desk;
@@ -78,9 +78,9 @@ fn hooks_keep_posts_back(rt: HostRuntime) {
     let signals = Signals::new();
     let script = Script {
         channel: Channel::Shell,
+        hello: DEALER,
         bytes: RUNS,
-        heard: 0,
-        done: 0,
+        after: AT_ONCE,
         asks: &[],
     };
     let (desk, passes) = open(&rt, alloc);
@@ -94,7 +94,12 @@ fn hooks_keep_posts_back(rt: HostRuntime) {
     let hooks = KeepBack {
         calls: AtomicU32::new(0),
     };
-    let mut guest = guest_of(&rt, alloc, &signals, script, 2);
+    let plan = Plan {
+        polls: 2,
+        over: u32::MAX,
+        holds: false,
+    };
+    let mut guest = guest_of(&rt, alloc, &signals, script, plan);
     guest.sit(passes);
     visit(&rt, alloc, &server, &hooks, &mut guest);
     let has_ended = guest.end()

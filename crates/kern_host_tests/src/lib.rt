@@ -1,8 +1,8 @@
 // A kernel that serves connections over memory, each reader and each writer in a thread of its own. What each
 // of them was sent is compared to the byte with what a new kernel gives if the journal's calls are made on it
-// again, one by one. One connection isn't a ZMTP peer, and one shuts the kernel down once the others have
-// been answered. Another test breaks a connection off at each of its bytes, and one has hooks that keep posts
-// back.
+// again, one by one. In one test the guests are of different channels, in one the worker is held between two
+// slices until the requests of four connections are answered, in one connections break off at each of their
+// bytes, and in one hooks keep posts back.
 #![tactic(auto)]
 
 #[cfg(test)]
@@ -12,6 +12,8 @@ mod bytes;
 #[cfg(test)]
 mod gates;
 #[cfg(test)]
+mod guests;
+#[cfg(test)]
 mod kept_back;
 #[cfg(test)]
 mod replay;
@@ -19,5 +21,7 @@ mod replay;
 mod signals;
 #[cfg(test)]
 mod streams;
+#[cfg(test)]
+mod turns;
 #[cfg(test)]
 mod visits;

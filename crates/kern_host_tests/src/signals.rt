@@ -32,24 +32,42 @@ impl Signal {
         self.count.fetch_add(count, Ordering::SeqCst);
     }
 
-    /// Waits until there were this many, but no longer than 20 seconds.
-    pub fn wait_for(&self, clock: &impl Clock, count: u32) {
+    /// How many there were.
+    pub fn count(&self) -> u32 {
+        self.count.load(Ordering::SeqCst)
+    }
+
+    /// Waits until there were this many; false if there weren't after 20 seconds.
+    pub fn comes(&self, clock: &impl Clock, count: u32) -> bool {
         for _ in 0..LOOKS {
-            if self.count.load(Ordering::SeqCst) >= count {
-                return;
+            if self.count() >= count {
+                return true;
             }
             rest(clock);
         }
+        false
     }
 }
 
-/// The signals of the test.
+/// How many signals there must have been of each kind.
+#[derive(Clone, Copy)]
+pub struct Counts {
+    pub heard: u32,
+    pub done: u32,
+    pub held: u32,
+}
+
+/// The signals of a test.
 #[derive(Drop)]
 pub struct Signals {
     /// The calls of readers.
     pub heard: Signal,
     /// The requests that are done, as iopub was told.
     pub done: Signal,
+    /// How often the worker was held.
+    pub held: Signal,
+    /// How often a thread gave up waiting.
+    pub late: Signal,
 }
 
 impl Signals {
@@ -58,6 +76,18 @@ impl Signals {
         Signals {
             heard: Signal::new(),
             done: Signal::new(),
+            held: Signal::new(),
+            late: Signal::new(),
+        }
+    }
+
+    /// Waits until there were this many of each kind.
+    pub fn wait_for(&self, clock: &impl Clock, counts: Counts) {
+        let have_come = self.heard.comes(clock, counts.heard)
+            && self.done.comes(clock, counts.done)
+            && self.held.comes(clock, counts.held);
+        if !have_come {
+            self.late.give(1);
         }
     }
 }

@@ -1,17 +1,16 @@
 //! The inlet and the outlet of a connection.
 
 use crate::bytes::{IDLE, count_of};
-use crate::signals::Signals;
+use crate::signals::{Counts, Signals};
 use base_streams::ports::{Inlet, IoFault, Outlet};
 use std::rt::Clock;
 
-/// An inlet that gives nothing before readers have made `heard` calls and `done` requests are done.
+/// An inlet that gives nothing before there were so many signals.
 #[derive(Drop)]
 pub struct HeldInlet<'a, I: Inlet + Drop, C: Clock> {
     pub from: I,
     pub signals: &'a Signals,
-    pub heard: u32,
-    pub done: u32,
+    pub after: Counts,
     pub clock: &'a C,
 }
 
@@ -19,8 +18,7 @@ impl<'a, I: Inlet + Drop, C: Clock> Inlet for HeldInlet<'a, I, C> {
     ghost state = { λ s. I.state s.from };
 
     fn read(&mut self, buffer: &mut [u8]) -> Result<usize, IoFault> {
-        self.signals.heard.wait_for(self.clock, self.heard);
-        self.signals.done.wait_for(self.clock, self.done);
+        self.signals.wait_for(self.clock, self.after);
         self.from.read(buffer)
     }
 }

@@ -1,8 +1,8 @@
-// Five runs of the workspace's parts, each told whole: `refusal_tests assembler`, `board`, `kernel`,
-// `requests` or `desk`. Where a call has no memory, a line `out of memory: CALL` tells it, the value is held
-// against what it was before, and the same call is made once more. So whichever one allocation is refused,
-// the same is printed but for one such line at most: refusals/run refuses each in turn. No contract is
-// claimed here but that events fit and passes stay with their desk.
+// Six runs of the workspace's parts, each told whole: `refusal_tests assembler`, `board`, `kernel`,
+// `requests`, `desk` or `host`. Where a call has no memory, a line `out of memory: CALL` tells it,
+// the value is held against what it was before, and the same call is made once more. So whichever one
+// allocation is refused, the same is printed but for one such line at most: refusals/run refuses each in
+// turn. No contract is claimed here but that events fit and passes stay with their desk.
 #![tactic(auto)]
 
 mod again;
@@ -10,6 +10,10 @@ mod answers;
 mod assembler;
 mod board;
 mod desk;
+mod host;
+mod host_bytes;
+mod host_gates;
+mod host_replay;
 mod kernel;
 mod plays;
 mod scripts;
@@ -18,17 +22,19 @@ use crate::again::tell_want;
 use anyhow::{Result, bail};
 use std::alloc::Global;
 use std::env;
-use std::rt::Env;
+use std::rt::{Clock, Env};
 use std::sync::Wait;
+use std::thread::Threads;
 
-fn run<R: Wait + Print>(rt: &R, alloc: Global, name: &str) -> Result<()> {
+fn run<R: Threads + Wait + Clock + Print + Sync>(rt: &R, alloc: Global, name: &str) -> Result<()> {
     match name {
         "assembler" => assembler::run(rt, alloc),
         "board" => board::run(rt, alloc),
         "kernel" => kernel::run(rt, alloc, scripts::FIRST),
         "requests" => kernel::run(rt, alloc, scripts::REQUESTS),
         "desk" => desk::run(rt, alloc),
-        _ => bail!("usage: refusal_tests assembler | board | kernel | requests | desk"),
+        "host" => host::run(rt, alloc),
+        _ => bail!("usage: refusal_tests NAME, as its text lists them"),
     }
 }
 

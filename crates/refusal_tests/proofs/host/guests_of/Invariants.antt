@@ -1,0 +1,7 @@
+use Rattle.std.proofs.Common.{All}
+use Rattle.kern_host.specs.Guests.{IsComing}
+use Rattle.refusal_tests.proofs.host.guests_of.Given as goal
+
+-- each guest so far is coming
+abbrev pub invariant-loop-script : goal.invariant-loop-script
+invariant-loop-script l = All IsComing l.guests.items
