@@ -110,6 +110,7 @@ pub record IsExchange (s : KernelState) (i : Incoming) (t : Turn) : Type 0 where
   pub work : t.state.work ≡ work_by cut s
   pub run : is_run t.state.board.run ≡ run_by cut (is_run s.board.run)
   pub posts : t.state.posts ≡ s.posts
+  pub connections : t.state.connections ≡ s.connections
   pub shut : t.state.is_shut ≡ (s.is_shut || asks_to_shut_down i)
   pub owned : AllByRecursion (IsOwn s.connections i) own
   pub prompt : filter_map reply_at_once own ≡ prompts i s
@@ -125,6 +126,7 @@ pub record IsUnposted (s : KernelState) (i : Incoming) (t : Turn) : Type 0 where
   pub work : t.state.work ≡ with_executions (executions i s) s.work
   pub run : is_run t.state.board.run ≡ is_run s.board.run
   pub posts : t.state.posts ≡ s.posts
+  pub connections : t.state.connections ≡ s.connections
   pub shut : t.state.is_shut ≡ (s.is_shut || asks_to_shut_down i)
   pub prompt : prompts i s ≡ []
 
@@ -145,9 +147,10 @@ now_shut false = refl
 with_own : (s : KernelState) (i : Incoming) (t : Turn) (own : List Letter)
     → t.letters ≡ between_busy_and_idle s.connections i.request.header own → t.state.work ≡ s.work
     → is_run t.state.board.run ≡ is_run s.board.run → t.state.posts ≡ s.posts
-    → t.state.is_shut ≡ (s.is_shut || asks_to_shut_down i) → AllByRecursion (IsOwn s.connections i) own
+    → t.state.connections ≡ s.connections → t.state.is_shut ≡ (s.is_shut || asks_to_shut_down i)
+    → AllByRecursion (IsOwn s.connections i) own
     → filter_map reply_at_once own ≡ prompts i s → executions i s ≡ [] → HasForm s i t
-with_own s i t own letters work run posts shut owned prompt execution = exchanged (record {
+with_own s i t own letters work run posts connections shut owned prompt execution = exchanged (record {
   cut = None;
   own = own;
   ends = tt;
@@ -155,6 +158,7 @@ with_own s i t own letters work run posts shut owned prompt execution = exchange
   work = work;
   run = run;
   posts = posts;
+  connections = connections;
   shut = shut;
   owned = owned;
   prompt = prompt;
@@ -196,6 +200,7 @@ answered n identity d r unix_seconds s to_body (Ok (a, b)) other run =
       work = ap (λ (b : Bool). if b then cut_work s else s.work) other;
       run = run;
       posts = refl;
+      connections = refl;
       shut = still_shut s.is_shut;
       owned = (
         record { content = tt; envelope = refl },
@@ -209,7 +214,7 @@ answered n identity d r unix_seconds s to_body (Ok (a, b)) other run =
     })
 answered n identity d r unix_seconds s to_body (Err f) other run =
     with_own s _ _ (debug_reply n (debug_request d r) d (Refused (refusal_name f)) ∷ []) refl refl refl refl
-    (still_shut s.is_shut) (record { content = tt; envelope = refl }, tt) refl refl
+    refl (still_shut s.is_shut) (record { content = tt; envelope = refl }, tt) refl refl
 
 answered_body : (n : ℕ) (identity : Bytes) (d : DapRequest) (r : Request) (unix_seconds : ℕ)
     (s : KernelState) (b : Body)
@@ -245,6 +250,7 @@ command_form n identity seq command.BoardReset r unix_seconds s = exchanged (rec
   work = refl;
   run = refl;
   posts = refl;
+  connections = refl;
   shut = still_shut s.is_shut;
   owned = (record { content = tt; envelope = refl }, tt);
   prompt = refl;
@@ -322,7 +328,7 @@ debug_form : (n : ℕ) (identity : Bytes) (d : DapRequest) (r : Request) (unix_s
     else refusing n (debug_request d r) d message unix_seconds s)
 debug_form n identity d r unix_seconds s message =
     either (HasForm s _) (is_bounded d.command) _ _ (command_form n identity d.seq d.command r unix_seconds s)
-    (with_own s _ _ (debug_reply n (debug_request d r) d (Refused message) ∷ []) refl refl refl refl
+    (with_own s _ _ (debug_reply n (debug_request d r) d (Refused message) ∷ []) refl refl refl refl refl
     (still_shut s.is_shut) (record { content = tt; envelope = refl }, tt) refl refl)
 
 -- ---- executions
@@ -363,11 +369,12 @@ execute_form n identity x r unix_seconds s =
       work = sym (ap (λ (b : Bool). with_executions (some b) s.work) yes);
       run = refl;
       posts = refl;
+      connections = refl;
       shut = still_shut s.is_shut;
       prompt = ap reply yes;
     }))
     (λ no. with_own s i _ (full_letters n (execute_request x r) x.is_silent s.connections s.work.count) refl
-    refl refl refl (still_shut s.is_shut) (owned_full x.is_silent n identity x r s)
+    refl refl refl refl (still_shut s.is_shut) (owned_full x.is_silent n identity x r s)
     (prompt_full x.is_silent n identity x r s ∙ sym (ap reply no)) (ap some no))
 
 -- ---- any request
@@ -394,7 +401,7 @@ replied : (n : ℕ) (identity : Bytes) (b : RequestBody) (r : Request) (unix_sec
     → HasForm s (body_incoming n identity b r) (replying n (body_request b r) c unix_seconds s)
 replied n identity b r unix_seconds s c shut own prompt execution =
     with_own s (body_incoming n identity b r) _ (reply_to n (body_request b r) c ∷ []) refl refl refl refl
-    shut
+    refl shut
     (own, tt) prompt execution
 
 body_form : (n : ℕ) (identity : Bytes) (b : RequestBody) (r : Request) (unix_seconds : ℕ) (s : KernelState)
@@ -404,17 +411,18 @@ body_form n identity (request.Execute x) r unix_seconds s = execute_form n ident
 body_form n identity (request.Debug d) r unix_seconds s = debug_form n identity d r unix_seconds s _
 body_form n identity (request.CommOpen comm_id) r unix_seconds s =
     with_own s _ _ (publication s.connections r.header (content.CommClose comm_id) ∷ []) refl refl refl refl
-    (still_shut s.is_shut) (record { content = tt; envelope = refl }, tt) refl refl
+    refl (still_shut s.is_shut) (record { content = tt; envelope = refl }, tt) refl refl
 body_form n identity request.Unknown r unix_seconds s =
-    with_own s _ _ [] refl refl refl refl (still_shut s.is_shut) tt refl refl
+    with_own s _ _ [] refl refl refl refl refl (still_shut s.is_shut) tt refl refl
 body_form n identity (request.BadContent needy.CommOpen) r unix_seconds s =
-    with_own s _ _ [] refl refl refl refl (still_shut s.is_shut) tt refl refl
+    with_own s _ _ [] refl refl refl refl refl (still_shut s.is_shut) tt refl refl
 body_form n identity (request.InputReply typed) r unix_seconds s =
     unposted (record {
       letters = refl;
       work = refl;
       run = refl;
       posts = refl;
+      connections = refl;
       shut = still_shut s.is_shut;
       prompt = refl;
     })
@@ -424,6 +432,7 @@ body_form n identity (request.BadContent needy.InputReply) r unix_seconds s =
       work = refl;
       run = refl;
       posts = refl;
+      connections = refl;
       shut = still_shut s.is_shut;
       prompt = refl;
     })
@@ -435,6 +444,7 @@ body_form n identity request.Interrupt r unix_seconds s = exchanged (record {
   work = refl;
   run = interrupted s.board.run s.board refl;
   posts = refl;
+  connections = refl;
   shut = still_shut s.is_shut;
   owned = (record { content = tt; envelope = refl }, tt);
   prompt = refl;
@@ -448,6 +458,7 @@ body_form n identity (request.Shutdown true) r unix_seconds s = exchanged (recor
   work = refl;
   run = refl;
   posts = refl;
+  connections = refl;
   shut = now_shut s.is_shut;
   owned = (record { content = tt; envelope = refl }, tt);
   prompt = refl;
@@ -455,7 +466,7 @@ body_form n identity (request.Shutdown true) r unix_seconds s = exchanged (recor
 })
 body_form n identity (request.Shutdown false) r unix_seconds s =
     with_own s _ _ (reply_to n (body_request (request.Shutdown false) r) (content.ShutdownReply false) ∷ [])
-    refl refl refl refl (now_shut s.is_shut) (record { content = tt; envelope = refl }, tt) refl refl
+    refl refl refl refl refl (now_shut s.is_shut) (record { content = tt; envelope = refl }, tt) refl refl
 body_form n identity request.KernelInfo r unix_seconds s =
     replied n identity request.KernelInfo r unix_seconds s content.KernelInfoReply
     (still_shut s.is_shut) (record { content = tt; envelope = refl }) refl refl

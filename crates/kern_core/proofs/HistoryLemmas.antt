@@ -55,7 +55,7 @@ kept_run Running unix_seconds s = refl
 kept_run Stopped unix_seconds s = refl
 kept_run NoRun unix_seconds s = kept_start s.work.pending unix_seconds s
 
-kept_posts : (c : Call) (s : KernelState) → KeepsPosts s (turn c s)
+pub kept_posts : (c : Call) (s : KernelState) → KeepsPosts s (turn c s)
 unfolding turn
 kept_posts (call.Slice unix_seconds) s =
     either (KeepsPosts s) s.is_shut _ _ refl (kept_run s.board.run unix_seconds s)

@@ -13,6 +13,7 @@ pub mod ReplyLemmas
 pub mod ToldLemmas
 pub mod AddressLemmas
 pub mod SubscriberLemmas
+pub mod NewLemmas
 pub mod ExecutionLemmas
 pub mod TalkLemmas
 pub mod ConversationLemmas

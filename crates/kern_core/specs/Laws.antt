@@ -1,9 +1,10 @@
 -- What the laws say of requests, of their replies and of posts, in the terms of "Messaging in Jupyter".
-use Rattle.std.specs.Prelude.{◌≡◌, ℕ, nat_lt, List, [], ◌∷◌, ◌++◌, length, map, Bool, true, false, Option}
-use Rattle.std.specs.Prelude.{Some, None, Ok, option_to_list, codes, ◌⊎◌, if◌then◌else◌}
-use Rattle.std.specs.List.{AllByRecursion, Any, filter_map, count_by}
+use Rattle.std.specs.Prelude.{◌≡◌, ℕ, ◌-◌, nat_lt, List, [], ◌∷◌, ◌++◌, length, map, take, Bool, true, false}
+use Rattle.std.specs.Prelude.{Option, Some, None, Ok, option_to_list, codes, ◌⊎◌, if◌then◌else◌}
+use Rattle.std.specs.List.{AllByRecursion, Any, filter, filter_map, count_by}
 use Rattle.std.specs.Str.{bytes_eq}
 use Rattle.base_text.specs.Bytes.{Bytes, Text, Frames}
+use Rattle.jup_wire.specs.declared.channel.Channel.{Channel}
 use Rattle.jup_wire.specs.declared.channel.Channel.TheVariants.{Iopub}
 use Rattle.lab_core.specs.declared.run_state.RunState.TheVariants.{NoRun}
 use Rattle.kern_request.specs.declared.request.RequestBody.{RequestBody}
@@ -22,6 +23,8 @@ use Rattle.kern_post.specs.declared.content.ExecutionState.TheVariants.{Busy, Id
 use Rattle.kern_post.specs.declared.post.Envelope.{Envelope}
 use Rattle.kern_post.specs.declared.post.Head.TheVariants.{Topic}
 use Rattle.kern_post.specs.declared.post.Letter.{Letter}
+use Rattle.kern_post.specs.declared.post.Post.{Post}
+use Rattle.kern_post.specs.Posts.{is_to}
 use Rattle.kern_post.specs.Topics.{topic_of}
 use Rattle.kern_exec.specs.declared.execution.Execution.{Execution}
 use Rattle.kern_exec.specs.declared.execution.Current.{Current}
@@ -29,9 +32,9 @@ use Rattle.kern_exec.specs.Executions.{Work, execution_of, count_with, current_o
 use Rattle.kern_exec.specs.Letters.{reply_envelope}
 use Rattle.kern_core.specs.declared.call.Call.{Call}
 use Rattle.kern_core.specs.declared.call.Call.TheVariants as call
-use Rattle.kern_core.specs.declared.call.Reply.TheVariants.{Ended}
+use Rattle.kern_core.specs.declared.call.Reply.TheVariants.{Ended, Joined}
 use Rattle.kern_core.specs.States.{KernelState, kernel_before_calls}
-use Rattle.kern_core.specs.Turns.{turn, next, state_after}
+use Rattle.kern_core.specs.Turns.{turn, next, state_after, answer_after}
 use Rattle.kern_core.specs.Events.{Incoming, incoming, call_events, along, letters_of}
 
 -- ---- the end of the kernel
@@ -258,6 +261,19 @@ IsAddressedBy _ c s l = IsToOne l.envelope
 -- what a call posts on iopub goes to the subscribers of that moment, and all else to one connection
 abbrev pub IsAddressed : Call → KernelState → Letter → Type 0
 IsAddressed c s l = IsAddressedBy l.content c s l
+
+-- ---- posts to a connection
+
+-- the posts to it with numbers below this one; a post's number is its place in the list, from 1
+unfoldable pub posts_below : ℕ → ℕ → List Post → List Post
+posts_below connection number posts = filter (is_to connection) (take (number - 1) posts)
+
+-- A connection that joins after these calls is new: whatever calls come later, no post is to it that has a
+-- number below the one that its Join is answered.
+abbrev pub JoinsAreNew : List Call → Type 0
+JoinsAreNew calls = (later : List Call) (channel : Channel) (identity : Bytes) (connection from : ℕ)
+    → answer_after calls (call.Join channel identity) ≡ Ok (Joined connection from)
+    → posts_below connection from (state_after (calls ++ later)).posts ≡ []
 
 -- ---- conversations
 

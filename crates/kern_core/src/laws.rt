@@ -10,7 +10,7 @@ ghost use Rattle.kern_core.specs.States.{kernel_before_calls};
 ghost use Rattle.kern_core.specs.Turns.{turn, state_after};
 ghost use Rattle.kern_core.specs.Events.{events_of, letters_of, along, BoardIsAfterEvents};
 ghost use Rattle.kern_core.specs.Laws.{requests_of, asks_to_shut_down, IsShut, reply_at_once, due_at_once};
-ghost use Rattle.kern_core.specs.Laws.{IsAddressed, IsSubscriber, ExecutionsAreAnswered};
+ghost use Rattle.kern_core.specs.Laws.{IsAddressed, IsSubscriber, ExecutionsAreAnswered, JoinsAreNew};
 ghost use Rattle.kern_core.specs.Laws.{content_about, requests_with, is_under_way, IsConversation};
 
 /// The board is the board after the events that the calls made, which are events that `Lab::run` takes: so
@@ -50,6 +50,11 @@ pub fn posts_reach_subscribers()
         → All (IsAddressed call (state_after calls)) (turn call (state_after calls)).letters }
     ensures subscribers { (topic : Text) (peers : List Peer) (n : ℕ)
         → Any (λ k. k ≡ n) (subscribers topic peers) ↔ IsSubscriber topic peers n }
+{}
+
+/// A connection that joins is new: nothing that was posted before its Join is to it.
+pub fn joined_connections_are_new()
+    ensures { (calls : List Call) → JoinsAreNew calls }
 {}
 
 /// All posts with a request's header as parent lie between its busy and its idle, which is missing only while

@@ -22,7 +22,10 @@ use Rattle.kern_host.proofs.AskedLemmas.{IsAt, full_there, is_part}
 -- ---- before the visits
 
 come : (desk : TurnstileState) (k : ℕ) (g : GuestState) → IsComing g → IsSeated desk (seated_at desk k g)
-come desk k g c = (record { readable = c.readable; writable = c.writable; gate = c.gate }, (refl, refl))
+come desk k g c = (
+  record { readable = c.readable; writable = c.writable; woken = c.woken; gate = c.gate },
+  (refl, refl),
+)
 
 pub are_seated : (desk : TurnstileState) (old new : List GuestState) → All IsComing old
     → AtEach (λ k a b. b ≡ seated_at desk k a) old new → length new ≡ length old → All (IsSeated desk) new

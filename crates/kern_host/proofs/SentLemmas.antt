@@ -1,18 +1,28 @@
 -- What was sent, in the one history.
-use Rattle.std.proofs.Common.{◌≡◌, ℕ, inl, inr, Bool, true, false, List, [], ◌∷◌, ◌++◌, zero, suc, Result, Ok}
-use Rattle.std.proofs.Common.{Err, refl, arith, sym, ap, ◌∙◌, subst, All, append-nil, append_assoc}
-use Rattle.std.proofs.lemmas.List.Elements.{All-append}
+use Rattle.std.proofs.Common.{◌≡◌, ◌≤◌, ◌+◌, ◌-◌, ℕ, inl, inr, Bool, true, false, List, [], ◌∷◌, ◌++◌, zero}
+use Rattle.std.proofs.Common.{suc, Result, Ok, Err, refl, arith, sym, ap, ◌∙◌, subst, All, append-nil}
+use Rattle.std.proofs.Common.{append_assoc, take, drop, take-add}
+use Rattle.std.specs.List.{filter}
+use Rattle.std.proofs.lemmas.List.{map-append}
+use Rattle.std.proofs.lemmas.List.Elements.{All-append, filter-append}
 use mathlib.Core.List.{IsPrefix}
 use Rattle.lab_turn.specs.History.{PassState}
 use Rattle.lab_turn.proofs.HistoryLemmas.{prefix_trans}
+use Rattle.base_text.specs.Bytes.{Bytes}
+use Rattle.jup_wire.specs.declared.channel.Channel.{Channel}
 use Rattle.kern_post.specs.declared.post.Post.{Post}
+use Rattle.kern_post.specs.Posts.{is_to}
 use Rattle.kern_core.specs.declared.call.Call.{Call}
-use Rattle.kern_core.specs.declared.call.Call.TheVariants.{Fetch}
+use Rattle.kern_core.specs.declared.call.Call.TheVariants.{Join, Fetch}
 use Rattle.kern_core.specs.declared.call.Reply.{Reply}
 use Rattle.kern_core.specs.declared.call.Reply.TheVariants as reply
 use Rattle.kern_core.specs.declared.fault.KernelFault.{KernelFault}
 use Rattle.kern_core.specs.declared.fault.KernelFault.TheVariants as fault
 use Rattle.kern_core.specs.Kernels.{is_entry}
+use Rattle.kern_core.specs.Laws.{posts_below}
+use Rattle.kern_core.specs.Turns.{state_after}
+use Rattle.kern_core.proofs.NewLemmas.{new_connections, next_number}
+use Rattle.kern_desk.specs.Seats.{calls_of as entry_calls_of}
 use Rattle.kern_net.specs.declared.end.PumpEnd.{PumpEnd}
 use Rattle.kern_net.specs.declared.end.PumpEnd.TheVariants as end
 use Rattle.kern_net.specs.Routes.{Target}
@@ -96,6 +106,31 @@ stops_only c next mid new end.OutOfTickets s = no_fetches c mid new (ap (λ (p :
 stops_only c next mid new end.PeerEnded s = absurd s
 stops_only c next mid new end.ReadFailed s = absurd s
 stops_only c next mid new (end.Wire cause) s = absurd s
+
+-- ---- from the first post on
+
+-- no post below its Join's number is to a connection, so those from there on are all posts to it
+pub from_the_first : (place : SeatInHistory) (channel : Channel) (identity : Bytes) (c from next : ℕ)
+    → IsAnswered place (Join channel identity) (Ok (reply.Joined c from)) → from ≤ next
+    → window c from next (posts_in place.history) ≡ posts_below c next (posts_in place.history)
+unfolding window posts_below
+from_the_first place channel identity c from next a onward =
+    let posts = posts_in place.history in
+    let before = entry_calls_of a.before in
+    let later = entry_calls_of ((place.seat, Join channel identity) ∷ a.here.0) in
+    let joined : before ++ later ≡ entry_calls_of place.history =
+    sym (map-append (λ (e : ℕ × Call). e.1) a.before ((place.seat, Join channel identity) ∷ a.here.0))
+    ∙ ap entry_calls_of (sym (append_assoc a.before ((place.seat, Join channel identity) ∷ []) a.here.0)
+    ∙ a.here.1) in
+    let none : filter (is_to c) (take (from - 1) posts) ≡ [] =
+    subst (λ calls. filter (is_to c) (take (from - 1) (state_after calls).posts) ≡ []) joined
+    (new_connections before later channel identity c from (sym a.answered)) in
+    let one = next_number before channel identity c from (sym a.answered) in
+    let number : next - 1 ≡ (from - 1) + (next - from) = omega (arith, one, onward) in
+    sym (ap (λ n. filter (is_to c) (take n posts)) number
+    ∙ (ap (filter (is_to c)) (take-add (from - 1) (next - from) posts)
+    ∙ (filter-append (is_to c) (take (from - 1) posts) (take (next - from) (drop (from - 1) posts))
+    ∙ ap (λ (l : List Post). l ++ filter (is_to c) (take (next - from) (drop (from - 1) posts))) none)))
 
 -- ---- why writing ended
 

@@ -20,6 +20,7 @@ use Rattle.kern_core.specs.declared.call.Reply.TheVariants as reply
 use Rattle.kern_core.specs.declared.fault.KernelFault.{KernelFault}
 use Rattle.kern_core.specs.declared.fault.KernelFault.TheVariants as fault
 use Rattle.kern_core.specs.Kernels.{is_entry}
+use Rattle.kern_core.specs.Laws.{posts_below}
 use Rattle.kern_desk.specs.declared.desks.Joined.{Joined}
 use Rattle.kern_desk.specs.Joins.{IsUnjoined, IsRefused, IsOutOfTickets}
 use Rattle.kern_net.specs.declared.end.PumpEnd.{PumpEnd}
@@ -28,6 +29,7 @@ use Rattle.kern_net.specs.Calls.{TurnedBy}
 use Rattle.kern_net.specs.ReadEnds.{Reader}
 use Rattle.kern_net.specs.Reading.{TakesTurns, NoCall, OneMore, ReadOut}
 use Rattle.kern_net.specs.Out.{writer_with}
+use Rattle.kern_net.specs.Streams.{posts_in, window}
 use Rattle.kern_net.proofs.CallLemmas.{turned_prefix, entry_calls, no_entry_calls}
 use Rattle.kern_host.specs.declared.end.Ends.{Ends}
 use Rattle.kern_host.specs.declared.end.LeaveFault.{LeaveFault}
@@ -35,7 +37,7 @@ use Rattle.kern_host.specs.declared.end.LeaveFault.TheVariants as leave
 use Rattle.kern_host.specs.declared.guest.Passes.{Passes}
 use Rattle.kern_host.specs.Guests.{GuestState, Line, line_of}
 use Rattle.kern_host.specs.Leaves.{leaving, HasLeft, KeepsFrom}
-use Rattle.kern_host.specs.OneHistory.{History, IsPartOf, SeatInHistory, IsAnswered}
+use Rattle.kern_host.specs.OneHistory.{History, IsPartOf, SeatInHistory, IsAnswered, Sends}
 use Rattle.kern_host.specs.Visits.{House, seats_of, reading_at, writing_at, role_on, identity_of, Meets}
 use Rattle.kern_host.specs.Visits.{TurnsAway, IsTurnedAway, IsVisit, Visited, VisitedWith, Outgoing}
 use Rattle.kern_host.specs.Visits.{SendsIfAny}
@@ -43,7 +45,7 @@ use Rattle.kern_host.specs.Writes.{WroteIfAny}
 use Rattle.kern_host.specs.declared.end.VisitEnd.{VisitEnd}
 use Rattle.kern_host.specs.Visits.{IsUnjoinedPeer, NoMemory, NotTaken, LeaveEnds, IsServed, Adds, seat_of}
 use Rattle.kern_host.proofs.AskedLemmas.{IsAt, full_there, asks, ends_asking}
-use Rattle.kern_host.proofs.SentLemmas.{sends, only_fetches, ends_sending}
+use Rattle.kern_host.proofs.SentLemmas.{sends, only_fetches, ends_sending, from_the_first}
 
 -- ---- the Join
 
@@ -142,18 +144,22 @@ sends_if_any : (house : House) (before : Passes) (w : PassState Call) (out : Out
     (writer_with new.outlet w new.polls) e
     → w.seat ≡ before.writing.seat → IsPartOf w history
     → IsAt w (writing_at (seats_of house before) history)
+    → ((next : ℕ) → out.from ≤ next → window out.target.connection out.from next (posts_in history)
+    ≡ posts_below out.target.connection next (posts_in history))
     → SendsIfAny (seats_of house before) out new history e
-sends_if_any house before w out new history (Some e) d s q a =
+sends_if_any house before w out new history (Some e) d s q a first =
     let f = only_fetches out.target out.from _ _ e d in
     record {
       next = d.next;
       onward = d.onward;
-      sends = sends out.target out.from _ _ e d history q.seen;
+      sends =
+          subst (λ posts. Sends out.target out.outlet new.outlet posts e) (first d.next d.onward)
+          (sends out.target out.from _ _ e d history q.seen);
       fetched = f.added;
       fetches = (ap (λ (i : ℕ). calls_of i history) (sym s) ∙ q.own ∙ f.calls, f.fetches);
       cause = ends_sending out.target out.from _ _ e d (writing_at (seats_of house before) history) a;
     }
-sends_if_any house before w out new history None d s q a = record {
+sends_if_any house before w out new history None d s q a first = record {
   outlet = d.outlet;
   silent = silent before.writing w history d.pass q;
   gate = d.gate;
@@ -235,6 +241,8 @@ module _ (house : House) (old new : Line) (before after : Passes) (ends : Ends)
       let onward = prefix_trans k.joined.seen k.read.seen history
       (read_onward _ k.peer _ _ ends.reading k.reads)
       read_at.seen in
+      let place = reading_at (seats_of house before) history in
+      let joins = represents before.reading k.joined join answer place k.joins refl refl onward in
       let out : Outgoing = record {
         target = record { connection = k.connection; key = house.key; session = house.session };
         from = k.from;
@@ -248,10 +256,7 @@ module _ (house : House) (old new : Line) (before after : Passes) (ends : Ends)
         meets = k.meets;
         connection = k.connection;
         from = k.from;
-        joins =
-            represents before.reading k.joined join answer (reading_at
-            (seats_of house before) history) k.joins refl refl
-            onward;
+        joins = joins;
         asked = k.reads.received.submitted.added;
         calls =
             ap (λ (i : ℕ). calls_of i history) (sym k.seats.1) ∙ p.own
@@ -263,7 +268,8 @@ module _ (house : House) (old new : Line) (before after : Passes) (ends : Ends)
             (seats_of house before) history) read_at;
         sent =
             sends_if_any house before after.writing out new history ends.writing k.writes k.seats.2 q
-            written_at;
+            written_at
+            (λ next. from_the_first place old.channel (identity_of k.peer) k.connection k.from next joins);
         leave_ends = leave_ends ends.leave after.reading (reading_at
             (seats_of house before) history) left_at k.leaves.cause;
       }

@@ -4,7 +4,7 @@ use Rattle.base_streams.specs.States.{InletState, OutletState, IsReadable, IsWri
 use Rattle.jup_wire.specs.declared.channel.Channel.{Channel}
 use Rattle.lab_turn.specs.History.{PassState, TurnstileState}
 use Rattle.kern_core.specs.declared.call.Call.{Call}
-use Rattle.kern_net.specs.Gates.{ReaderPolls, WriterPolls}
+use Rattle.kern_net.specs.Gates.{ReaderPolls, WriterPolls, HasWoken}
 use Rattle.kern_host.specs.declared.end.VisitEnd.{VisitEnd}
 use Rattle.kern_host.specs.declared.guest.Passes.{Passes}
 
@@ -29,10 +29,12 @@ pub record Line : Type 0 where
 abbrev pub line_of : GuestState → Line
 line_of g = record { channel = g.channel; inlet = g.inlet; outlet = g.outlet; polls = g.writer }
 
--- its reader has neither ended nor failed, its writer has not failed, and the writer's gate has not said no
+-- its reader has neither ended nor failed, its writer has not failed, the reader's gate has told no moment
+-- for which it woke nobody, and the writer's gate has not said no
 pub record IsComing (g : GuestState) : Type 0 where
   pub readable : IsReadable g.inlet
   pub writable : IsWritable g.outlet
+  pub woken : HasWoken g.reader
   pub gate : g.writer.idle.no ≡ 0
 
 -- both are passes of this desk

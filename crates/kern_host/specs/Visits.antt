@@ -19,11 +19,12 @@ use Rattle.kern_core.specs.declared.call.Call.TheVariants.{Join}
 use Rattle.kern_core.specs.declared.call.Reply.TheVariants.{Joined}
 use Rattle.kern_core.specs.declared.fault.KernelFault.{KernelFault}
 use Rattle.kern_core.specs.declared.fault.KernelFault.TheVariants as fault
+use Rattle.kern_core.specs.Laws.{posts_below}
 use Rattle.kern_desk.specs.Joins.{IsUnjoined}
 use Rattle.kern_net.specs.declared.end.PumpEnd.{PumpEnd}
 use Rattle.kern_net.specs.Gates.{WriterPolls}
 use Rattle.kern_net.specs.Routes.{Target}
-use Rattle.kern_net.specs.Streams.{posts_in, window}
+use Rattle.kern_net.specs.Streams.{posts_in}
 use Rattle.kern_host.specs.declared.end.Ends.{Ends}
 use Rattle.kern_host.specs.declared.end.LeaveFault.{LeaveFault}
 use Rattle.kern_host.specs.declared.end.LeaveFault.TheVariants as leave
@@ -138,21 +139,21 @@ abbrev pub LeaveEnds : SeatInHistory → Result (Unit {0}) LeaveFault → Type 0
 LeaveEnds place (Err leave.JournalFull) = IsFull place
 LeaveEnds place _ = Unit {0}
 
--- what is to be sent to a connection that has joined: to whom, from which post on, and the writer and what
--- its gate was polled before that
+-- what is to be sent to a connection that has joined: to whom, the number of the next post at its Join, and
+-- the writer and what its gate was polled before that
 pub record Outgoing : Type 0 where
   pub target : Target
   pub from : ℕ
   pub outlet : OutletState
   pub polls : WriterPolls
 
--- What was sent to this end are the posts to the connection, from its Join on and below the number `next`,
--- and the second seat only fetched them.
+-- What was sent to this end are the posts to the connection with numbers below `next`, from the first of all;
+-- there is none below its Join's number. And the second seat only fetched them.
 pub record IsSent (s : Seats) (out : Outgoing) (new : Line) (history : History) (e : PumpEnd) : Type 0 where
   pub next : ℕ
   pub onward : out.from ≤ next
   pub sends : Sends out.target out.outlet new.outlet
-      (window out.target.connection out.from next (posts_in history)) e
+      (posts_below out.target.connection next (posts_in history)) e
   pub fetched : List Call
   pub fetches : Adds s.writing history fetched × All (IsFetchOf out.target.connection) fetched
   pub cause : SendingEnds (writing_at s history) out.target.connection next new.polls e
@@ -169,8 +170,8 @@ SendsIfAny s out new history (Some e) = IsSent s out new history e
 SendsIfAny s out new history None = IsUnsent s out new history
 
 -- A peer came and joined. The calls of its first seat are its Join, one for each message of its bytes that
--- asks for something, and its Leave. What it was sent after the handshake are the posts to it from its Join
--- on.
+-- asks for something, and its Leave. What it was sent after the handshake are the posts to it, from the
+-- first on.
 pub record IsServed (s : Seats) (old new : Line) (history : History) (ends : Ends) : Type 0 where
   pub peer : Peer
   pub inlet : InletState

@@ -1,6 +1,7 @@
 //! Reading from a connection and writing to it at once.
 ghost use Rattle.std.specs.Prelude.{◌≡◌, IsSome, IfSome};
 ghost use Rattle.base_streams.specs.States.{IsReadable};
+ghost use Rattle.kern_net.specs.Gates.{HasWoken};
 ghost use Rattle.kern_net.specs.Reading.{ReadOut};
 ghost use Rattle.kern_host.specs.Guests.{IsComing};
 ghost use Rattle.kern_host.specs.Writes.{WroteIfAny};
@@ -42,6 +43,7 @@ fn read_on<R: Wait, I: Inlet, G: ReaderGate, H: WriterGate, K: Hooks<G, H>>(
     routes: &Routes<'_, K>,
 ) -> PumpEnd
     requires own { pass.old.turnstile ≡ routes.now.incoming.desk.now }
+    requires woken { HasWoken (G.polls gate.old) }
     requires readable { IsReadable (I.state from.old) }
     requires some { IsSome peer.old }
     ensures same { (pass.new.turnstile ≡ routes.now.incoming.desk.now) × (pass.new.seat ≡ pass.old.seat) }
@@ -126,7 +128,7 @@ pub(crate) fn talk<
         rt,
         &mut || -> PumpEnd
             requires { (reading.now.turnstile ≡ routes.now.incoming.desk.now) × IsReadable (I.state from.now)
-                × IsSome peer.now }
+                × IsSome peer.now × HasWoken (G.polls reader.now) }
             ensures same { (reading.exit.now.turnstile ≡ routes.entry.now.incoming.desk.now)
                 × (reading.exit.now.seat ≡ reading.entry.now.seat) }
             ensures read { IfSome peer.entry.now (λ p. ReadOut (source_of routes.entry.now.incoming) p

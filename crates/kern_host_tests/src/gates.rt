@@ -1,8 +1,9 @@
 //! The gates of the threads. They wait a millisecond at each poll.
-ghost use Rattle.std.specs.Prelude.{◌≡◌, false};
+ghost use Rattle.std.specs.Prelude.{◌≡◌, false, None};
 ghost use Rattle.kern_net.specs.Gates.{no_polls, with_answer};
 
 use crate::signals::{Signals, rest};
+use base_streams::ports::Outlet;
 use kern_desk::seated::Pass;
 use kern_net::gate::{ReaderGate, WorkerGate, WriterGate};
 use kern_net::tally::{Tally, WorkerTally, one_more};
@@ -104,34 +105,42 @@ impl<'a, C: Clock> WorkerGate for WorkGate<'a, C> {
 pub struct InGate<'a> {
     wakes: u64,
     own_wakes: u64,
+    // The moment told last, if nobody was woken since.
+    due: Option<u64>,
     signals: &'a Signals,
 }
 
 impl<'a> InGate<'a> {
     /// A gate that has woken nobody yet.
-    pub fn new(signals: &'a Signals) -> InGate<'a> {
+    pub fn new(signals: &'a Signals) -> InGate<'a>
+        ensures { result.due ≡ None }
+    {
         InGate {
             wakes: 0,
             own_wakes: 0,
+            due: None,
             signals,
         }
     }
 }
 
 impl<'a> ReaderGate for InGate<'a> {
-    ghost polls = { λ g. record { wakes = g.wakes; own_wakes = g.own_wakes } };
+    ghost polls = { λ g. record { wakes = g.wakes; own_wakes = g.own_wakes; due = g.due } };
 
-    fn wake<R: Wait>(&mut self, rt: &R) {
+    fn wake<R: Wait>(&mut self, rt: &R, _pass: &Pass) {
         self.signals.heard.give(1);
         self.wakes = one_more(rt, self.wakes);
+        self.due = None;
     }
 
-    fn wake_own_writers<R: Wait>(&mut self, rt: &R) {
+    fn wake_own_writers<R: Wait>(&mut self, rt: &R, _pass: &Pass) {
         self.signals.heard.give(1);
         self.own_wakes = one_more(rt, self.own_wakes);
+        self.due = None;
     }
 
     fn unix_seconds<R: Wait>(&mut self, _rt: &R) -> u64 {
+        self.due = Some(MOMENT);
         MOMENT
     }
 }
@@ -140,6 +149,8 @@ impl<'a> ReaderGate for InGate<'a> {
 #[derive(Drop)]
 pub struct OutGate<'a, C: Clock> {
     idle: Tally,
+    // The posts below this number are written.
+    next: u64,
     plan: Plan,
     signals: &'a Signals,
     clock: &'a C,
@@ -154,6 +165,7 @@ impl<'a, C: Clock> OutGate<'a, C> {
     {
         OutGate {
             idle: Tally::new(),
+            next: 0,
             plan,
             signals,
             clock,
@@ -163,16 +175,21 @@ impl<'a, C: Clock> OutGate<'a, C> {
 
     /// Counts an answer no.
     pub fn count_no<R: Wait>(&mut self, rt: &R)
-        ensures { self.new.idle ≡ with_answer false self.old.idle }
+        ensures { (self.new.idle ≡ with_answer false self.old.idle) × (self.new.next ≡ self.old.next) }
     {
         self.idle.add_no(rt);
     }
 }
 
 impl<'a, C: Clock> WriterGate for OutGate<'a, C> {
-    ghost polls = { λ g. record { idle = g.idle } };
+    ghost polls = { λ g. record { idle = g.idle; next = g.next } };
 
-    fn idle<R: Wait>(&mut self, rt: &R, _pass: &Pass, _next: u64) -> bool {
+    fn begin<R: Wait>(&mut self, _rt: &R, from: u64) {
+        self.next = from;
+    }
+
+    fn idle<R: Wait, W: Outlet>(&mut self, rt: &R, _pass: &Pass, _to: &W, next: u64) -> bool {
+        self.next = next;
         rest(self.clock);
         let was_over = self.is_over;
         self.is_over = self.signals.done.count() >= self.plan.over;

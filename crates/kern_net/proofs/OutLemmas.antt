@@ -27,7 +27,7 @@ use Rattle.kern_core.specs.Kernels.{is_entry}
 use Rattle.kern_net.specs.declared.end.PumpEnd.{PumpEnd}
 use Rattle.kern_net.specs.declared.end.PumpEnd.TheVariants as end
 use Rattle.kern_net.specs.Ends.{end_by_kernel}
-use Rattle.kern_net.specs.Gates.{AnswerCounts, WriterPolls, with_answer, times, FetchedAll, HasCaughtUp}
+use Rattle.kern_net.specs.Gates.{AnswerCounts, WriterPolls, with_answer, times, FetchedAll, after_idle}
 use Rattle.kern_net.specs.Calls.{TurnedBy, LastCall}
 use Rattle.kern_net.proofs.CallLemmas.{turned_prefix, last_call}
 use Rattle.kern_net.specs.declared.pump_out.Batch.{Batch}
@@ -35,7 +35,7 @@ use Rattle.kern_net.specs.declared.pump_out.Cursor.{Cursor}
 use Rattle.kern_net.specs.Streams.{posts_in, window, IsStreamOf}
 use Rattle.kern_net.specs.Routes.{Target}
 use Rattle.kern_net.specs.Out.{FetchedOn, OneFetch, StopsFetching, Writer, is_whole, WrotePrefix, WroteAll}
-use Rattle.kern_net.specs.Out.{WroteOut, OutEnds, writer_with}
+use Rattle.kern_net.specs.Out.{WroteOut, OutEnds, HasCaughtUp, writer_with}
 use Rattle.kern_net.specs.Rounds.{GivesBatch, FetchFails, IsOutOfTickets, IsRefused, WriteFails, IsUnfit}
 use Rattle.kern_net.specs.Rounds.{IsFailed}
 use Rattle.kern_net.specs.Rounds.{WritesBatch, RoundFails, IsDenied, IsCut, Sender}
@@ -267,6 +267,18 @@ written_on target a b d from f next history posts w g t =
           (all_on target a b d (window target.connection from f (posts_in history)) posts w.all t);
     }
 
+-- what was written since the writer's gate was polled last
+pub record Since (target : Target) (outlet : OutletState) (from next : ℕ) (history : List (ℕ × Call))
+    : Type 0 where
+  pub before : OutletState
+  pub written : Written target before outlet from next history
+
+pub since_none : (target : Target) (a : OutletState) (from next : ℕ) (history : List (ℕ × Call))
+    → from ≡ next → Since target a from next history
+since_none target a from next history is =
+    let W : ℕ → Type 0 = λ n. Written target a a n next history in
+    record { before = a; written = subst W (sym is) (written_first target a next history) }
+
 -- ---- the Fetches
 
 -- a Fetch that was answered
@@ -313,6 +325,15 @@ went_on target a b d from f next ended v w r s =
     let k = moved target.connection f v w s.posts next ended s.turned in
     written_on target a b d from f next w.seen s.posts
     (written_kept target a b from f v.seen w.seen k.onward r) k.given s.all
+
+pub went_since : (target : Target) (b d : OutletState) (from f next : ℕ) (ended : Bool)
+    (v w : PassState Call) → Since target b from f v.seen
+    → WritesBatch target f (sender b v) (sender d w) (cursor next ended)
+    → Since target d from next w.seen
+went_since target b d from f next ended v w r s = record {
+  before = r.before;
+  written = went_on target r.before b d from f next ended v w r.written s;
+}
 
 pub went_fetched : (target : Target) (b d : OutletState) (from f next : ℕ) (ended : Bool)
     (o v w : PassState Call) → FetchedOn target.connection from o v f
@@ -367,10 +388,23 @@ fetched_all target b d f next ended v w s short =
       all = reaches last.before target.connection f s.posts next ended last.answered short;
     }
 
-pub went_up : (target : Target) (b d : OutletState) (f next : ℕ) (ended : Bool) (v w : PassState Call)
-    → WritesBatch target f (sender b v) (sender d w) (cursor next ended) → next - f < 64 → HasCaughtUp w next
-went_up target b d f next ended v w s short =
-    (target.connection, ended, fetched_all target b d f next ended v w s short)
+pub went_up : (target : Target) (b d : OutletState) (from f next : ℕ) (ended : Bool) (v w : PassState Call)
+    → Since target b from f v.seen → WritesBatch target f (sender b v) (sender d w) (cursor next ended)
+    → next - f < 64 → HasCaughtUp w d from next
+went_up target b d from f next ended v w r s short =
+    let all = went_since target b d from f next ended v w r s in
+    record {
+      target = target;
+      ended = ended;
+      fetched = fetched_all target b d f next ended v w s short;
+      before = all.before;
+      wrote = all.written.all;
+    }
+
+-- what polling `idle` made of the writer's polls
+pub was_asked : (a b : WriterPolls) (r : Bool) (next : ℕ) → b ≡ after_idle r next a
+    → b.idle ≡ with_answer r a.idle
+was_asked a b r next is = ap (λ (x : WriterPolls). x.idle) is
 
 pub said_no : (a b : WriterPolls) (r : Bool) → b.idle ≡ with_answer r a.idle → r ≡ false → a.idle.no ≡ 0
     → b.idle.no ≡ 1

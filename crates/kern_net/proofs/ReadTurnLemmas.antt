@@ -14,7 +14,8 @@ use Rattle.kern_net.specs.declared.end.PumpEnd.TheVariants as pump
 use Rattle.kern_net.specs.ReadEnds.{IsReaderCall, LastAnswer, StopsBy}
 use Rattle.kern_net.specs.Calls.{TurnedBy}
 use Rattle.kern_net.proofs.CallLemmas.{turned_prefix}
-use Rattle.kern_net.proofs.RingLemmas.{woke_by, told_by, woke_not, told_not}
+use Rattle.kern_net.proofs.RingLemmas.{woke_by, told_by, woke_not, told_not, woken_after}
+use Rattle.kern_net.proofs.RingLemmas.{granted_to_wake, refused_to_wake}
 use Rattle.kern_net.proofs.SubmitLemmas.{Grants, Refuses}
 use Rattle.kern_net.proofs.LagLemmas.{no_lag}
 
@@ -100,6 +101,9 @@ pub ruleset outcomes = (
   told_by,
   woke_not,
   told_not,
+  woken_after,
+  granted_to_wake,
+  refused_to_wake,
   stops_full,
   stops_unknown,
   stops_journal_full,

@@ -1,14 +1,19 @@
 -- How often others were woken, and told.
-use Rattle.std.proofs.Common.{◌≡◌, ◌∙◌, ◌+◌, Bool, true, false, List, [], ◌∷◌, ◌++◌, Result, refl, ap, arith}
+use Rattle.std.proofs.Common.{◌≡◌, ◌∙◌, ◌+◌, ℕ, Bool, true, false, List, [], ◌∷◌, ◌++◌, Result, Ok, Err, refl}
+use Rattle.std.proofs.Common.{ap, sym, arith}
 use Rattle.std.specs.Prelude.{cond, count_by, not}
 use Rattle.std.proofs.lemmas.List.Sums.{sum_by_push}
 use Rattle.lab_turn.specs.History.{PassState}
 use Rattle.kern_core.specs.declared.call.Call.{Call}
+use Rattle.kern_core.specs.declared.call.Call.TheVariants.{Arrive, Subscribe}
+use Rattle.kern_core.specs.declared.call.Arrival.{Arrival}
+use Rattle.kern_core.specs.declared.call.Subscription.{Subscription}
 use Rattle.kern_core.specs.declared.call.Reply.{Reply}
 use Rattle.kern_core.specs.declared.fault.KernelFault.{KernelFault}
 use Rattle.kern_core.specs.Kernels.{is_entry}
 use Rattle.kern_net.specs.Calls.{TurnedBy}
-use Rattle.kern_net.specs.Gates.{ReaderPolls, after_wake, WokeForEach, WokeOwnForEach}
+use Rattle.kern_net.specs.Gates.{ReaderPolls, after_wake, WokeForEach, WokeOwnForEach, HasWoken}
+use Rattle.kern_net.specs.Gates.{IsToWake, IsDue, with_moment, moment_of}
 use Rattle.kern_net.specs.Wakes.{concerns_worker, spares_worker}
 
 -- with one call more
@@ -49,3 +54,73 @@ woke_not old new a is = let same = ap (count_by concerns_worker) is in omega (ar
 pub told_not : (old new : PassState Call) (a : ReaderPolls) → new.calls ≡ old.calls
     → WokeOwnForEach old new a a
 told_not old new a is = let same = ap (count_by spares_worker) is in omega (arith, same)
+
+-- ---- moments
+
+pub woken_after : (a b : ReaderPolls) (has_work : Bool) → b ≡ after_wake has_work a → HasWoken b
+woken_after a b true is = ap (λ (p : ReaderPolls). p.due) is
+woken_after a b false is = ap (λ (p : ReaderPolls). p.due) is
+
+pub arrival_due : (call : Call) (connection : ℕ) (arrival : Arrival) (a b : ReaderPolls)
+    → call ≡ Arrive connection arrival → b ≡ with_moment arrival.unix_seconds a → IsDue call b
+arrival_due call connection arrival a b is told = record {
+  moment = arrival.unix_seconds;
+  told = ap (λ (p : ReaderPolls). p.due) told;
+  dated = ap moment_of is;
+}
+
+pub subscription_due : (call : Call) (connection : ℕ) (s : Subscription) (a b : ReaderPolls)
+    → call ≡ Subscribe connection s → b ≡ with_moment s.unix_seconds a → IsDue call b
+subscription_due call connection s a b is told = record {
+  moment = s.unix_seconds;
+  told = ap (λ (p : ReaderPolls). p.due) told;
+  dated = ap moment_of is;
+}
+
+to_wake : (old new : PassState Call) (call : Call) (answer : Result Reply KernelFault) (has_work : Bool)
+    (p : ReaderPolls) → TurnedBy old call answer new → is_entry answer ≡ true
+    → has_work ≡ concerns_worker call → IsDue call p → IsToWake has_work p new
+to_wake old new call answer has_work p turned entry concerns due = record {
+  earlier = old.calls;
+  call = call;
+  calls = (turned.entered entry).counted;
+  concerns = sym concerns;
+  due = due;
+}
+
+pub granted_to_wake : (old new : PassState Call) (call : Call) (answer : Result Reply KernelFault)
+    (has_work : Bool) (p : ReaderPolls) → TurnedBy old call answer new
+    → (reply : Reply) × (answer ≡ Ok reply) → has_work ≡ concerns_worker call → IsDue call p
+    → IsToWake has_work p new
+granted_to_wake old new call answer has_work p turned (reply, is) concerns due =
+    to_wake old new call answer has_work p turned (ap is_entry is) concerns due
+
+pub refused_to_wake : (old new : PassState Call) (call : Call) (answer : Result Reply KernelFault)
+    (fault : KernelFault) (has_work : Bool) (p : ReaderPolls) → TurnedBy old call answer new
+    → answer ≡ Err fault → is_entry (Err fault) ≡ true → has_work ≡ concerns_worker call → IsDue call p
+    → IsToWake has_work p new
+refused_to_wake old new call answer fault has_work p turned is entry concerns due =
+    to_wake old new call answer has_work p turned (ap is_entry is ∙ entry) concerns due
+
+-- where a moment was told before
+pub woke_from : (old new : PassState Call) (a b d : ReaderPolls) (moment : ℕ) → b ≡ with_moment moment a
+    → WokeForEach old new b d → WokeForEach old new a d
+woke_from old new a b d moment is woke =
+    let w = ap (λ (p : ReaderPolls). p.wakes) is in omega (arith, woke, w)
+
+pub told_from : (old new : PassState Call) (a b d : ReaderPolls) (moment : ℕ) → b ≡ with_moment moment a
+    → WokeOwnForEach old new b d → WokeOwnForEach old new a d
+told_from old new a b d moment is told =
+    let o = ap (λ (p : ReaderPolls). p.own_wakes) is in omega (arith, told, o)
+
+-- and no call was made
+pub woke_none : (pass : PassState Call) (a b : ReaderPolls) (moment : ℕ) → b ≡ with_moment moment a
+    → WokeForEach pass pass a b
+woke_none pass a b moment is = let w = ap (λ (p : ReaderPolls). p.wakes) is in omega (arith, w)
+
+pub told_none : (pass : PassState Call) (a b : ReaderPolls) (moment : ℕ) → b ≡ with_moment moment a
+    → WokeOwnForEach pass pass a b
+told_none pass a b moment is = let o = ap (λ (p : ReaderPolls). p.own_wakes) is in omega (arith, o)
+
+-- what a moment shows
+pub ruleset moments = (arrival_due, subscription_due, woke_from, told_from, woke_none, told_none)

@@ -239,3 +239,5 @@ unopened source frames old other none =
 
 -- frames that are no subscription ask for nothing
 pub ruleset dropped_subscription = (no_subscription, submitted_none)
+
+pub ruleset arrivals = (unopened, submitted_none)

@@ -1,9 +1,10 @@
 -- How often gates were polled, how often each answer came, and how often they woke others.
-use Rattle.std.specs.Prelude.{◌≡◌, ℕ, ◌+◌, ◌<◌, ◌≤◌, Bool, true, false, length, count_by, List, Ok}
+use Rattle.std.specs.Prelude.{◌≡◌, ℕ, ◌+◌, ◌<◌, ◌≤◌, Bool, true, false, length, count_by, List, [], ◌∷◌, ◌++◌}
+use Rattle.std.specs.Prelude.{Option, Some, None, Ok}
 use Rattle.lab_turn.specs.History.{PassState}
 use Rattle.kern_post.specs.declared.post.Post.{Post}
 use Rattle.kern_core.specs.declared.call.Call.{Call}
-use Rattle.kern_core.specs.declared.call.Call.TheVariants.{Fetch}
+use Rattle.kern_core.specs.declared.call.Call.TheVariants.{Fetch, Subscribe, Arrive, Slice}
 use Rattle.kern_core.specs.declared.call.Reply.TheVariants.{Fetched}
 use Rattle.kern_net.specs.Calls.{LastCall}
 use Rattle.kern_net.specs.Streams.{posts_in}
@@ -28,14 +29,16 @@ pub record WorkerPolls : Type 0 where
   pub idle : AnswerCounts
   pub wakes : ℕ
 
--- a reader's
+-- a reader's: how often it woke others, and the moment that it told last if it hasn't woken others since
 pub record ReaderPolls : Type 0 where
   pub wakes : ℕ
   pub own_wakes : ℕ
+  pub due : Option ℕ
 
--- a writer's
+-- a writer's: its answers, and the number of the first post that it hasn't been told is written
 pub record WriterPolls : Type 0 where
   pub idle : AnswerCounts
+  pub next : ℕ
 
 -- with one more answer, or one more call of `wake`
 abbrev pub before_polled : Bool → WorkerPolls → WorkerPolls
@@ -49,8 +52,16 @@ with_wake p = record p { wakes = p.wakes + 1 }
 
 -- `wake` was called once more, or `wake_own_writers`, by whether the call concerns the worker
 abbrev pub after_wake : Bool → ReaderPolls → ReaderPolls
-after_wake true p = record p { wakes = p.wakes + 1 }
-after_wake false p = record p { own_wakes = p.own_wakes + 1 }
+after_wake true p = record p { wakes = p.wakes + 1; due = None }
+after_wake false p = record p { own_wakes = p.own_wakes + 1; due = None }
+
+-- a moment was told
+abbrev pub with_moment : ℕ → ReaderPolls → ReaderPolls
+with_moment moment p = record p { due = Some moment }
+
+-- `idle` was polled once more, with the posts below this number written
+abbrev pub after_idle : Bool → ℕ → WriterPolls → WriterPolls
+after_idle answer next p = record p { idle = with_answer answer p.idle; next = next }
 
 -- a gate that hasn't been polled yet, and has woken nobody
 abbrev pub no_polls : WorkerPolls
@@ -63,6 +74,31 @@ noes p = p.before.no + p.idle.no
 -- it hasn't said no
 abbrev pub IsOpen : WorkerPolls → Type 0
 IsOpen p = (p.before.no ≡ 0) × (p.idle.no ≡ 0)
+
+-- others were woken after each moment that was told
+abbrev pub HasWoken : ReaderPolls → Type 0
+HasWoken p = p.due ≡ None
+
+-- the moment of a call that has one
+abbrev pub moment_of : Call → Option ℕ
+moment_of (Subscribe connection subscription) = Some subscription.unix_seconds
+moment_of (Arrive connection arrival) = Some arrival.unix_seconds
+moment_of (Slice unix_seconds) = Some unix_seconds
+moment_of _ = None
+
+-- the moment that was told last is the call's, and others weren't woken since
+pub record IsDue (call : Call) (p : ReaderPolls) : Type 0 where
+  pub moment : ℕ
+  pub told : p.due ≡ Some moment
+  pub dated : moment_of call ≡ Some moment
+
+-- others are to be woken for the last call of the pass, by whether it may give the worker something to do
+pub record IsToWake (has_work : Bool) (p : ReaderPolls) (pass : PassState Call) : Type 0 where
+  pub earlier : List Call
+  pub call : Call
+  pub calls : pass.calls ≡ earlier ++ call ∷ []
+  pub concerns : concerns_worker call ≡ has_work
+  pub due : IsDue call p
 
 -- `idle` was polled at most once for each call that was added
 abbrev pub PolledForEach : PassState Call → PassState Call → WriterPolls → WriterPolls → Type 0
@@ -85,7 +121,3 @@ pub record FetchedAll (connection : ℕ) (pass : PassState Call) (next : ℕ) (e
   pub posts : List Post
   pub last : LastCall pass (Fetch connection from) (Ok (Fetched posts next ended))
   pub all : length (posts_in last.before) < next
-
--- the pass has fetched all posts, and this is the number to go on at
-abbrev pub HasCaughtUp : PassState Call → ℕ → Type 0
-HasCaughtUp pass next = (connection : ℕ) × (ended : Bool) × FetchedAll connection pass next ended

@@ -79,6 +79,15 @@ pub record WroteAll (target : Target) (to to' : OutletState) (posts : List Post)
   pub stream : IsStreamOf target.key target.session posts bytes
   pub took : Took to to' bytes
 
+-- The pass has fetched all posts to a connection, and the last messages that were written are those of the
+-- posts to it from one number on and below the other, at which to go on.
+pub record HasCaughtUp (pass : PassState Call) (outlet : OutletState) (from next : ℕ) : Type 0 where
+  pub target : Target
+  pub ended : Bool
+  pub fetched : FetchedAll target.connection pass next ended
+  pub before : OutletState
+  pub wrote : WroteAll target before outlet (window target.connection from next (posts_in pass.seen))
+
 -- The last Fetch reached the last post that there was. Then the gate said no, once; or that Fetch told of a
 -- shutdown, and the gate hasn't said no.
 abbrev pub EndsAll : ℕ → ℕ → PassState Call → WriterPolls → Type 0

@@ -2,9 +2,9 @@
 use Rattle.std.specs.Prelude.{◌≡◌, ◌≤◌, ◌⊎◌, ℕ, true, List, [], ◌∷◌, ◌++◌, Result, Ok, MatchResult}
 use Rattle.zmtp_wire.specs.Wire.{Bytes, Messages}
 use mathlib.Core.List.{IsPrefix}
-use Rattle.base_streams.specs.States.{InletState}
+use Rattle.base_streams.specs.States.{InletState, IsReadable}
 use Rattle.base_streams.specs.Told.{Gave, WasRead}
-use Rattle.lab_turn.specs.History.{PassState}
+use Rattle.lab_turn.specs.History.{PassState, TurnstileState}
 use Rattle.zmtp_wire.specs.Stream.{DecoderState, Completes}
 use Rattle.zmtp_wire.specs.declared.handshake.Peer.{Peer}
 use Rattle.zmtp_wire.specs.Receiving.{most_reads}
@@ -15,7 +15,7 @@ use Rattle.kern_net.specs.declared.routes.IncomingRoute.{IncomingRoute}
 use Rattle.kern_net.specs.Routes.{Source, source_of}
 use Rattle.kern_net.specs.Submitting.{Submits}
 use Rattle.kern_net.specs.Calls.{TurnedBy}
-use Rattle.kern_net.specs.Gates.{ReaderPolls, WokeForEach, WokeOwnForEach}
+use Rattle.kern_net.specs.Gates.{ReaderPolls, WokeForEach, WokeOwnForEach, HasWoken}
 use Rattle.kern_net.specs.ReadEnds.{Reader, IsRefusal, StopsBy, StopsPiece, EndsBy, submits_all}
 
 -- these calls were made, one turn after the other, and none was refused
@@ -116,6 +116,13 @@ pub record GatedReader : Type 0 where
 
 abbrev pub reader_with : InletState → PassState Call → ReaderPolls → GatedReader
 reader_with inlet pass polls = record { inlet = inlet; pass = pass; polls = polls }
+
+-- the pass is of this desk, the reader has neither ended nor failed, and others were woken for each moment
+-- that the gate told
+pub record CanRead (desk : TurnstileState) (reader : GatedReader) : Type 0 where
+  pub own : reader.pass.turnstile ≡ desk
+  pub readable : IsReadable reader.inlet
+  pub woken : HasWoken reader.polls
 
 -- A peer was read from to this end, by calls of one seat at the route's desk. All were woken once for each
 -- call that may give the worker something to do, and those whom it concerns were told once for each other

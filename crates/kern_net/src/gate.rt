@@ -1,9 +1,12 @@
 //! Gates: the hooks that tell the worker or a pump whether to go on, block it while there is nothing to do,
 //! and wake the others. A gate isn't polled again once it has answered false.
-ghost use Rattle.std.specs.Prelude.{◌≡◌, ◌≤◌, true, false};
-ghost use Rattle.kern_net.specs.Gates.{WorkerPolls, ReaderPolls, WriterPolls, with_answer};
-ghost use Rattle.kern_net.specs.Gates.{before_polled, idle_polled, with_wake, after_wake, HasCaughtUp};
+ghost use Rattle.std.specs.Prelude.{◌≡◌, ◌≤◌, ◌+◌, true, false};
+ghost use Rattle.kern_net.specs.Gates.{WorkerPolls, ReaderPolls, WriterPolls, after_idle};
+ghost use Rattle.kern_net.specs.Gates.{before_polled, idle_polled, with_wake, after_wake, with_moment};
+ghost use Rattle.kern_net.specs.Gates.{HasWoken, IsToWake};
+ghost use Rattle.kern_net.specs.Out.{HasCaughtUp};
 
+use base_streams::ports::Outlet;
 use kern_desk::seated::Pass;
 use std::sync::Wait;
 
@@ -27,40 +30,52 @@ pub trait WorkerGate {
     fn wake<R: Wait>(&mut self, rt: &R)
         ensures { polls self.new ≡ with_wake (polls self.old) };
 
-    /// Whole seconds since 1970-01-01T00:00:00Z. A time after 2100-01-01T00:00:00Z counts as that.
+    /// Whole seconds since 1970-01-01T00:00:00Z, for the Slice that was let through last. A time after
+    /// 2100-01-01T00:00:00Z counts as that.
     fn unix_seconds<R: Wait>(&mut self, rt: &R) -> u64
+        requires { (polls self.old).before.yes ≡ (polls self.old).wakes + 1 }
         ensures polls { polls self.new ≡ polls self.old }
         ensures bound { result ≤ 4102444800 };
 }
 
 /// How a reader wakes others.
 pub trait ReaderGate {
-    /// How often `wake` and `wake_own_writers` were called.
+    /// How often `wake` and `wake_own_writers` were called, and the moment told since, if there is one.
     ghost polls: { Self → ReaderPolls };
 
-    /// Wakes the worker and all writers, after a call that may have given the worker something to do.
-    fn wake<R: Wait>(&mut self, rt: &R)
+    /// Wakes the worker and all writers, after a call that may have given the worker something to do: the
+    /// last call of the pass, made at the moment that was told for it.
+    fn wake<R: Wait>(&mut self, rt: &R, pass: &Pass)
+        requires { IsToWake true (polls self.old) pass.now }
         ensures { polls self.new ≡ after_wake true (polls self.old) };
 
     /// Wakes only the writer of the reader's own connection and those of iopub, after a call that gave the
     /// worker nothing to do: it can only have posted to them.
-    fn wake_own_writers<R: Wait>(&mut self, rt: &R)
+    fn wake_own_writers<R: Wait>(&mut self, rt: &R, pass: &Pass)
+        requires { IsToWake false (polls self.old) pass.now }
         ensures { polls self.new ≡ after_wake false (polls self.old) };
 
-    /// Whole seconds since 1970-01-01T00:00:00Z. A time after 2100-01-01T00:00:00Z counts as that.
+    /// The moment of the next call, in whole seconds since 1970-01-01T00:00:00Z. A time after
+    /// 2100-01-01T00:00:00Z counts as that. Others were woken for each call whose moment it told.
     fn unix_seconds<R: Wait>(&mut self, rt: &R) -> u64
-        ensures polls { polls self.new ≡ polls self.old }
+        requires { HasWoken (polls self.old) }
+        ensures polls { polls self.new ≡ with_moment result (polls self.old) }
         ensures bound { result ≤ 4102444800 };
 }
 
 /// Where a writer waits.
 pub trait WriterGate {
-    /// How often `idle` has answered yes and no.
+    /// How often `idle` has answered yes and no, and up to which number posts were written then.
     ghost polls: { Self → WriterPolls };
 
+    /// Notes that posts are written from number `from` on.
+    fn begin<R: Wait>(&mut self, rt: &R, from: u64)
+        ensures { polls self.new ≡ record (polls self.old) { next = from } };
+
     /// Waits until something may have been posted, and returns whether to go on. The pass has fetched all
-    /// posts below number `next`, and there were no others at that time.
-    fn idle<R: Wait>(&mut self, rt: &R, pass: &Pass, next: u64) -> bool
-        requires { HasCaughtUp pass.now next }
-        ensures { (polls self.new).idle ≡ with_answer result (polls self.old).idle };
+    /// posts below number `next`, there were no others at that time, and all are written that weren't when it
+    /// was called last.
+    fn idle<R: Wait, W: Outlet>(&mut self, rt: &R, pass: &Pass, to: &W, next: u64) -> bool
+        requires { HasCaughtUp pass.now (W.state to.now) (polls self.old).next next }
+        ensures { polls self.new ≡ after_idle result next (polls self.old) };
 }

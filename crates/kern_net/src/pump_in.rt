@@ -1,10 +1,9 @@
 //! Reading a connection to its end.
-ghost use Rattle.std.specs.Prelude.{◌≡◌};
-ghost use Rattle.base_streams.specs.States.{IsReadable};
+ghost use Rattle.std.specs.Prelude.{◌≡◌, OnOk};
 ghost use Rattle.zmtp_wire.specs.declared.fault.StreamFault.{StreamFault};
 ghost use Rattle.kern_net.specs.declared.end.PumpEnd.TheVariants as pump;
-ghost use Rattle.kern_net.specs.Gates.{WokeForEach, WokeOwnForEach};
-ghost use Rattle.kern_net.specs.Reading.{SubmittedFor, PieceSubmitted, PumpsIn, reader_with};
+ghost use Rattle.kern_net.specs.Gates.{WokeForEach, WokeOwnForEach, HasWoken};
+ghost use Rattle.kern_net.specs.Reading.{SubmittedFor, PieceSubmitted, CanRead, PumpsIn, reader_with};
 ghost use Rattle.kern_net.specs.Routes.{source_of};
 
 use crate::end::PumpEnd;
@@ -29,8 +28,10 @@ fn submit_all<R: Wait, G: ReaderGate>(
     route: &IncomingRoute<'_>,
     messages: Messages,
 ) -> Result<(), PumpEnd>
-    requires { pass.old.turnstile ≡ route.now.desk.now }
+    requires own { pass.old.turnstile ≡ route.now.desk.now }
+    requires woken { HasWoken (G.polls gate.old) }
     ensures same { (pass.new.turnstile ≡ route.now.desk.now) × (pass.new.seat ≡ pass.old.seat) }
+    ensures woken { OnOk result (HasWoken (G.polls gate.new)) }
     ensures woke { WokeForEach pass.old pass.new (G.polls gate.old) (G.polls gate.new) }
     ensures told { WokeOwnForEach pass.old pass.new (G.polls gate.old) (G.polls gate.new) }
     ensures submitted { SubmittedFor (source_of route.now) messages pass.old pass.new result }
@@ -54,8 +55,10 @@ fn take_piece<R: Wait, G: ReaderGate>(
     decoder: &mut Decoder,
     piece: &[u8],
 ) -> Result<(), PumpEnd>
-    requires { pass.old.turnstile ≡ route.now.desk.now }
+    requires own { pass.old.turnstile ≡ route.now.desk.now }
+    requires woken { HasWoken (G.polls gate.old) }
     ensures same { (pass.new.turnstile ≡ route.now.desk.now) × (pass.new.seat ≡ pass.old.seat) }
+    ensures woken { OnOk result (HasWoken (G.polls gate.new)) }
     ensures woke { WokeForEach pass.old pass.new (G.polls gate.old) (G.polls gate.new) }
     ensures told { WokeOwnForEach pass.old pass.new (G.polls gate.old) (G.polls gate.new) }
     ensures submitted { PieceSubmitted (source_of route.now) piece.now
@@ -91,8 +94,7 @@ pub fn pump_in<R: Wait, I: Inlet, G: ReaderGate>(
     peer: Peer,
     route: &IncomingRoute<'_>,
 ) -> PumpEnd
-    requires own { pass.old.turnstile ≡ route.now.desk.now }
-    requires readable { IsReadable (I.state from.old) }
+    requires { CanRead route.now.desk.now (reader_with (I.state from.old) pass.old (G.polls gate.old)) }
     ensures { PumpsIn route.now peer (reader_with (I.state from.old) pass.old (G.polls gate.old))
         (reader_with (I.state from.new) pass.new (G.polls gate.new)) result }
 {

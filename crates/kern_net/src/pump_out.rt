@@ -150,6 +150,7 @@ pub fn pump_out<R: Wait, W: Outlet, G: WriterGate>(
     ensures { PumpsOut route.now from (writer_with (W.state to.old) pass.old (G.polls gate.old))
         (writer_with (W.state to.new) pass.new (G.polls gate.new)) result }
 {
+    gate.begin(runtime.rt, from);
     let mut next = from;
     for _ in runtime.rt.forever() {
         match fetch_on(runtime, pass, to, route, next) {
@@ -159,7 +160,7 @@ pub fn pump_out<R: Wait, W: Outlet, G: WriterGate>(
                     if ended {
                         return PumpEnd::Ended;
                     }
-                    if !gate.idle(runtime.rt, pass, after) {
+                    if !gate.idle(runtime.rt, pass, to, after) {
                         return PumpEnd::Ended;
                     }
                 }

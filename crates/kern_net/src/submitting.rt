@@ -10,7 +10,8 @@ ghost use Rattle.kern_request.specs.Requests.{request_of as request_in};
 ghost use Rattle.kern_core.specs.declared.call.Call.TheVariants.{Arrive, Subscribe};
 ghost use Rattle.kern_core.specs.declared.call.Reply.{Reply};
 ghost use Rattle.kern_net.specs.Calls.{TurnedBy};
-ghost use Rattle.kern_net.specs.Gates.{after_wake, WokeForEach, WokeOwnForEach};
+ghost use Rattle.kern_net.specs.Gates.{after_wake, WokeForEach, WokeOwnForEach, HasWoken, IsToWake};
+ghost use Rattle.kern_net.specs.Gates.{IsDue};
 ghost use Rattle.kern_net.specs.Submitting.{subscription_frames, IsUnopened, IsNoSubscription};
 ghost use Rattle.kern_net.specs.ReadEnds.{IsReaderCall, IsRefusal, StopsBy};
 ghost use Rattle.kern_net.specs.Reading.{SubmittedFor};
@@ -45,13 +46,14 @@ fn refusal(answer: Result<Reply, KernelFault>) -> Result<(), KernelFault>
 }
 
 // Wakes everybody if the worker may have something to do, else those whom the call may have posted to.
-fn ring<R: Wait, G: ReaderGate>(rt: &R, gate: &mut G, has_work: bool)
+fn ring<R: Wait, G: ReaderGate>(rt: &R, gate: &mut G, pass: &Pass, has_work: bool)
+    requires { IsToWake has_work (G.polls gate.old) pass.now }
     ensures { G.polls gate.new ≡ after_wake has_work (G.polls gate.old) }
 {
     if has_work {
-        gate.wake(rt);
+        gate.wake(rt, pass);
     } else {
-        gate.wake_own_writers(rt);
+        gate.wake_own_writers(rt, pass);
     }
 }
 
@@ -66,7 +68,9 @@ fn make_call<R: Wait, G: ReaderGate>(
 ) -> Result<(), PumpEnd>
     requires own { pass.old.turnstile ≡ desk.now }
     requires read { IsReaderCall call }
+    requires due { IsDue call (G.polls gate.old) }
     ensures same { (pass.new.turnstile ≡ desk.now) × (pass.new.seat ≡ pass.old.seat) }
+    ensures woken { OnOk result (HasWoken (G.polls gate.new)) }
     ensures woke { WokeForEach pass.old pass.new (G.polls gate.old) (G.polls gate.new) }
     ensures told { WokeOwnForEach pass.old pass.new (G.polls gate.old) (G.polls gate.new) }
     ensures ok { OnOk result ((reply : Reply) × TurnedBy pass.old call (Ok reply) pass.new) }
@@ -81,17 +85,17 @@ fn make_call<R: Wait, G: ReaderGate>(
     };
     match refusal(answer) {
         Ok(()) => {
-            ring(rt, gate, has_work);
+            ring(rt, gate, pass, has_work);
             Ok(())
         }
         Err(KernelFault::OutOfMemory) => Err(PumpEnd::OutOfMemory),
         Err(KernelFault::JournalFull) => Err(PumpEnd::JournalFull),
         Err(KernelFault::Full) => {
-            ring(rt, gate, has_work);
+            ring(rt, gate, pass, has_work);
             Err(PumpEnd::Refused(KernelFault::Full))
         }
         Err(KernelFault::NoConnection) => {
-            ring(rt, gate, has_work);
+            ring(rt, gate, pass, has_work);
             Err(PumpEnd::Refused(KernelFault::NoConnection))
         }
         Err(KernelFault::Lagged { .. }) => Err(PumpEnd::Lagged),
@@ -194,7 +198,7 @@ fn message_in(alloc: Global, frames: Frames, key: &[u8]) -> Result<Option<Messag
     }
 }
 
-#[tactic(auto, using(crate::proofs::SubmitLemmas::dropped_subscription))]
+#[tactic(auto, using(crate::proofs::SubmitLemmas::dropped_subscription, crate::proofs::RingLemmas::moments))]
 fn subscribe<R: Wait, G: ReaderGate>(
     runtime: &Runtime<'_, R>,
     pass: &mut Pass,
@@ -203,8 +207,10 @@ fn subscribe<R: Wait, G: ReaderGate>(
     frames: &Frames,
 ) -> Result<(), PumpEnd>
     requires own { pass.old.turnstile ≡ route.now.desk.now }
+    requires woken { HasWoken (G.polls gate.old) }
     requires iopub { route.now.channel ≡ Iopub }
     ensures same { (pass.new.turnstile ≡ route.now.desk.now) × (pass.new.seat ≡ pass.old.seat) }
+    ensures woken { OnOk result (HasWoken (G.polls gate.new)) }
     ensures woke { WokeForEach pass.old pass.new (G.polls gate.old) (G.polls gate.new) }
     ensures told { WokeOwnForEach pass.old pass.new (G.polls gate.old) (G.polls gate.new) }
     ensures submitted { SubmittedFor (source_of route.now) (frames.now ∷ []) pass.old pass.new result }
@@ -222,7 +228,7 @@ fn subscribe<R: Wait, G: ReaderGate>(
     }
 }
 
-#[tactic(auto, using(crate::proofs::SubmitLemmas::unopened, crate::proofs::SubmitLemmas::submitted_none))]
+#[tactic(auto, using(crate::proofs::SubmitLemmas::arrivals, crate::proofs::RingLemmas::moments))]
 fn arrive<R: Wait, G: ReaderGate>(
     runtime: &Runtime<'_, R>,
     pass: &mut Pass,
@@ -231,8 +237,10 @@ fn arrive<R: Wait, G: ReaderGate>(
     frames: Frames,
 ) -> Result<(), PumpEnd>
     requires own { pass.old.turnstile ≡ route.now.desk.now }
+    requires woken { HasWoken (G.polls gate.old) }
     requires other { route.now.channel ≡ Iopub → ⊥ }
     ensures same { (pass.new.turnstile ≡ route.now.desk.now) × (pass.new.seat ≡ pass.old.seat) }
+    ensures woken { OnOk result (HasWoken (G.polls gate.new)) }
     ensures woke { WokeForEach pass.old pass.new (G.polls gate.old) (G.polls gate.new) }
     ensures told { WokeOwnForEach pass.old pass.new (G.polls gate.old) (G.polls gate.new) }
     ensures submitted { SubmittedFor (source_of route.now) (frames ∷ []) pass.old pass.new result }
@@ -261,8 +269,10 @@ pub(crate) fn submit<R: Wait, G: ReaderGate>(
     route: &IncomingRoute<'_>,
     frames: Frames,
 ) -> Result<(), PumpEnd>
-    requires { pass.old.turnstile ≡ route.now.desk.now }
+    requires own { pass.old.turnstile ≡ route.now.desk.now }
+    requires woken { HasWoken (G.polls gate.old) }
     ensures same { (pass.new.turnstile ≡ route.now.desk.now) × (pass.new.seat ≡ pass.old.seat) }
+    ensures woken { OnOk result (HasWoken (G.polls gate.new)) }
     ensures woke { WokeForEach pass.old pass.new (G.polls gate.old) (G.polls gate.new) }
     ensures told { WokeOwnForEach pass.old pass.new (G.polls gate.old) (G.polls gate.new) }
     ensures submitted { SubmittedFor (source_of route.now) (frames ∷ []) pass.old pass.new result }

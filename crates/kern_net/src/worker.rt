@@ -54,7 +54,8 @@ fn slice<R: Wait, G: WorkerGate>(
     pass: &mut Pass,
     gate: &mut G,
 ) -> Result<Progress, PumpEnd>
-    requires { pass.old.turnstile ≡ desk.now }
+    requires pass { pass.old.turnstile ≡ desk.now }
+    requires gate { (G.polls gate.old).before.yes ≡ (G.polls gate.old).wakes + 1 }
     ensures same { (pass.new.turnstile ≡ desk.now) × (pass.new.seat ≡ pass.old.seat) }
     ensures before { (G.polls gate.new).before ≡ (G.polls gate.old).before }
     ensures idle { (G.polls gate.new).idle ≡ (G.polls gate.old).idle }

@@ -1,7 +1,8 @@
 //! Gates that answer yes a number of times and then no, and count their answers. They never wait.
-ghost use Rattle.std.specs.Prelude.{◌≡◌};
+ghost use Rattle.std.specs.Prelude.{◌≡◌, None};
 ghost use Rattle.kern_net.specs.Gates.{no_polls};
 
+use base_streams::ports::Outlet;
 use kern_desk::seated::Pass;
 use kern_net::gate::{ReaderGate, WorkerGate, WriterGate};
 use kern_net::tally::{Tally, WorkerTally, one_more};
@@ -73,30 +74,38 @@ pub struct InGate {
     /// How often `wake` and `wake_own_writers` were called.
     pub wakes: u64,
     pub own_wakes: u64,
+    // The moment told last, if nobody was woken since.
+    due: Option<u64>,
 }
 
 impl InGate {
     /// A gate that has woken nobody yet.
-    pub fn new() -> InGate {
+    pub fn new() -> InGate
+        ensures { result.due ≡ None }
+    {
         InGate {
             wakes: 0,
             own_wakes: 0,
+            due: None,
         }
     }
 }
 
 impl ReaderGate for InGate {
-    ghost polls = { λ g. record { wakes = g.wakes; own_wakes = g.own_wakes } };
+    ghost polls = { λ g. record { wakes = g.wakes; own_wakes = g.own_wakes; due = g.due } };
 
-    fn wake<R: Wait>(&mut self, rt: &R) {
+    fn wake<R: Wait>(&mut self, rt: &R, _pass: &Pass) {
         self.wakes = one_more(rt, self.wakes);
+        self.due = None;
     }
 
-    fn wake_own_writers<R: Wait>(&mut self, rt: &R) {
+    fn wake_own_writers<R: Wait>(&mut self, rt: &R, _pass: &Pass) {
         self.own_wakes = one_more(rt, self.own_wakes);
+        self.due = None;
     }
 
     fn unix_seconds<R: Wait>(&mut self, _rt: &R) -> u64 {
+        self.due = Some(MOMENT);
         MOMENT
     }
 }
@@ -106,6 +115,8 @@ impl ReaderGate for InGate {
 pub struct OutGate {
     idles: u64,
     pub idle: Tally,
+    // The posts below this number are written.
+    next: u64,
 }
 
 impl OutGate {
@@ -116,6 +127,7 @@ impl OutGate {
         OutGate {
             idles,
             idle: Tally::new(),
+            next: 0,
         }
     }
 
@@ -126,9 +138,14 @@ impl OutGate {
 }
 
 impl WriterGate for OutGate {
-    ghost polls = { λ g. record { idle = g.idle } };
+    ghost polls = { λ g. record { idle = g.idle; next = g.next } };
 
-    fn idle<R: Wait>(&mut self, rt: &R, _pass: &Pass, _next: u64) -> bool {
+    fn begin<R: Wait>(&mut self, _rt: &R, from: u64) {
+        self.next = from;
+    }
+
+    fn idle<R: Wait, W: Outlet>(&mut self, rt: &R, _pass: &Pass, _to: &W, next: u64) -> bool {
+        self.next = next;
         if self.idle.yes() < self.idles {
             self.idle.add_yes(rt);
             return true;

@@ -1,5 +1,5 @@
 //! A kernel's desk with one pass for reading and one for writing.
-ghost use Rattle.std.specs.Prelude.{◌≡◌, All, false};
+ghost use Rattle.std.specs.Prelude.{◌≡◌, All, false, None};
 ghost use Rattle.kern_net.specs.Gates.{no_polls};
 
 use crate::gates::{InGate, OutGate, WorkGate};
@@ -111,6 +111,7 @@ impl Table {
     ) -> PumpEnd
         requires ended { from.old.ended ≡ false }
         requires failed { from.old.failed ≡ false }
+        requires woken { gate.old.due ≡ None }
     {
         let route = IncomingRoute {
             desk: &self.desk,

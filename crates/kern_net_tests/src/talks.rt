@@ -1,5 +1,5 @@
 //! Conversations over memory: first everything is read that a client sends, then everything is written to it.
-ghost use Rattle.std.specs.Prelude.{◌≡◌, false};
+ghost use Rattle.std.specs.Prelude.{◌≡◌, false, None};
 
 use crate::gates::{InGate, OutGate};
 use crate::messages::{KEY, Part, bytes_of, is_front};
@@ -178,6 +178,7 @@ fn read_met<R: Wait>(
 ) -> Result<PumpEnd, PeerFault>
     requires ended { from.old.ended ≡ false }
     requires failed { from.old.failed ≡ false }
+    requires woken { gate.old.due ≡ None }
 {
     let mut to = Sink::new(alloc, 4096, 9999);
     let met = handshake(alloc, from, &mut to, role_on(origin.channel));
@@ -196,7 +197,9 @@ pub fn read_as<R: Wait + Abort>(
     gate: &mut InGate,
     origin: Origin<'_>,
     given: &[Part],
-) -> Result<PumpEnd, PeerFault> {
+) -> Result<PumpEnd, PeerFault>
+    requires { gate.old.due ≡ None }
+{
     let mut from = Source::new(bytes_of(rt, alloc, given), 4096, 9999);
     let end = read_met(rt, alloc, table, gate, origin, &mut from);
     drop(from);

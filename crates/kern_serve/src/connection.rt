@@ -155,9 +155,9 @@ impl<'a, 'c, R: Host> Hooks<InGate<'c, R>, OutGate<'c>> for Connection<'a, R> {
     }
 
     // Without a reader nothing is written.
-    fn before_writing<Q: Wait>(&self, rt: &Q, gate: &mut OutGate<'c>, from: u64) -> bool {
+    fn before_writing<Q: Wait>(&self, rt: &Q, gate: &mut OutGate<'c>, _from: u64) -> bool {
         let seen = self.seen.load(Ordering::SeqCst);
-        if has_reader(rt, &self.begun) && gate.begin(rt, from, seen) {
+        if has_reader(rt, &self.begun) && gate.open(rt, seen) {
             return true;
         }
         gate.count_no(rt);

@@ -1,8 +1,9 @@
 //! The gates of a server: where its threads wait, and how they wake one another.
-ghost use Rattle.std.specs.Prelude.{◌≡◌, ◌≤◌, ◌+◌, ◌<◌, ◌↔◌, IsTrue, false};
+ghost use Rattle.std.specs.Prelude.{◌≡◌, ◌≤◌, ◌+◌, ◌<◌, ◌↔◌, IsTrue, false, None};
 ghost use Rattle.kern_net.specs.Gates.{with_answer};
 
 use crate::slots::Slots;
+use base_streams::ports::Outlet;
 use jup_wire::channel::Channel;
 use kern_desk::seated::Pass;
 use kern_net::gate::{ReaderGate, WorkerGate, WriterGate};
@@ -34,11 +35,15 @@ pub struct InGate<'a, C: Clock> {
     entries: u64,
     wakes: u64,
     own_wakes: u64,
+    // The time that it told last, if it hasn't woken others since.
+    due: Option<u64>,
 }
 
 impl<'a, C: Clock> InGate<'a, C> {
     /// The gate of the connection in a slot, before its first call.
-    pub fn new(wakeups: &'a Wakeups, slots: &'a Slots, clock: &'a C, slot: Slot) -> InGate<'a, C> {
+    pub fn new(wakeups: &'a Wakeups, slots: &'a Slots, clock: &'a C, slot: Slot) -> InGate<'a, C>
+        ensures { result.due ≡ None }
+    {
         InGate {
             wakeups,
             slots,
@@ -48,6 +53,7 @@ impl<'a, C: Clock> InGate<'a, C> {
             entries: wakeups.entries(),
             wakes: 0,
             own_wakes: 0,
+            due: None,
         }
     }
 
@@ -60,14 +66,16 @@ impl<'a, C: Clock> InGate<'a, C> {
 
     /// Notes that its connection's reader begins.
     pub fn begin(&mut self)
-        ensures { (self.new.wakes ≡ self.old.wakes) × (self.new.own_wakes ≡ self.old.own_wakes) }
+        ensures counts { (self.new.wakes ≡ self.old.wakes) × (self.new.own_wakes ≡ self.old.own_wakes) }
+        ensures due { self.new.due ≡ self.old.due }
     {
         self.entries = self.wakeups.entries();
     }
 
     // Waits after a subscription, if there were many.
     fn hold(&mut self)
-        ensures { (self.new.wakes ≡ self.old.wakes) × (self.new.own_wakes ≡ self.old.own_wakes) }
+        ensures counts { (self.new.wakes ≡ self.old.wakes) × (self.new.own_wakes ≡ self.old.own_wakes) }
+        ensures due { self.new.due ≡ self.old.due }
     {
         let entries = self.wakeups.entries();
         let micros = subscription_pause(entries, self.entries);
@@ -87,15 +95,20 @@ impl<'a, C: Clock> InGate<'a, C> {
 }
 
 impl<'a, C: Clock> ReaderGate for InGate<'a, C> {
-    ghost polls = { λ g. record { wakes = g.wakes; own_wakes = g.own_wakes } };
+    ghost polls = { λ g. record {
+      wakes = g.wakes;
+      own_wakes = g.own_wakes;
+      due = g.due;
+    } };
 
-    fn wake<R: Wait>(&mut self, rt: &R) {
+    fn wake<R: Wait>(&mut self, rt: &R, _pass: &Pass) {
         self.count(rt);
         self.wakeups.wake_all();
         self.wakes = one_more(rt, self.wakes);
+        self.due = None;
     }
 
-    fn wake_own_writers<R: Wait>(&mut self, rt: &R) {
+    fn wake_own_writers<R: Wait>(&mut self, rt: &R, _pass: &Pass) {
         self.count(rt);
         match self.slot.channel {
             Channel::Iopub => {
@@ -107,10 +120,13 @@ impl<'a, C: Clock> ReaderGate for InGate<'a, C> {
             Channel::Shell | Channel::Stdin => self.wakeups.after_request(self.own),
         }
         self.own_wakes = one_more(rt, self.own_wakes);
+        self.due = None;
     }
 
     fn unix_seconds<R: Wait>(&mut self, _rt: &R) -> u64 {
-        unix_seconds(self.clock)
+        let told = unix_seconds(self.clock);
+        self.due = Some(told);
+        told
     }
 }
 
@@ -128,7 +144,7 @@ pub struct OutGate<'a> {
     is_counted: bool,
     // Whether the worker had ended before the last Fetch.
     is_closing: bool,
-    // The number to go on at when it was last polled.
+    // The number to go on at when it was last polled, or to begin at.
     next: u64,
     idle: Tally,
 }
@@ -151,13 +167,11 @@ impl<'a> OutGate<'a> {
         }
     }
 
-    /// Counts its writer, whose first Fetch begins at number `from`. Waits until something may have been
-    /// posted, and returns whether the connection is still open. `seen` is the event count where it waits, as
-    /// it was before that number was known.
-    pub fn begin<R: Wait>(&mut self, rt: &R, from: u64, seen: u64) -> bool
-        ensures { self.new.idle ≡ self.old.idle }
+    /// Counts its writer. Waits until something may have been posted, and returns whether the connection is
+    /// still open. `seen` is the event count where it waits, as it was before the Join was answered.
+    pub fn open<R: Wait>(&mut self, rt: &R, seen: u64) -> bool
+        ensures { (self.new.idle ≡ self.old.idle) × (self.new.next ≡ self.old.next) }
     {
-        self.next = from;
         self.seen = seen;
         self.is_closing = self.wakeups.is_closing();
         self.wakeups.add_writer(rt, self.slot.channel);
@@ -167,7 +181,7 @@ impl<'a> OutGate<'a> {
 
     /// Counts an answer no.
     pub fn count_no<R: Wait>(&mut self, rt: &R)
-        ensures { self.new.idle ≡ with_answer false self.old.idle }
+        ensures { (self.new.idle ≡ with_answer false self.old.idle) × (self.new.next ≡ self.old.next) }
     {
         self.idle.add_no(rt);
     }
@@ -182,7 +196,7 @@ impl<'a> OutGate<'a> {
     // Counts the Fetches since it was last polled. All but the last of them covered as many numbers as they
     // could.
     fn count(&mut self, next: u64)
-        ensures { self.new.idle ≡ self.old.idle }
+        ensures { (self.new.idle ≡ self.old.idle) × (self.new.next ≡ next) }
     {
         let moved = next.saturating_sub(self.next);
         self.wakeups.count_entries(moved / NUMBERS_OF_A_FETCH + 1);
@@ -191,7 +205,7 @@ impl<'a> OutGate<'a> {
 
     // Waits until something may have been posted, and returns whether the connection is still open.
     fn wait_for_posts<R: Wait>(&mut self, rt: &R) -> bool
-        ensures { self.new.idle ≡ self.old.idle }
+        ensures { (self.new.idle ≡ self.old.idle) × (self.new.next ≡ self.old.next) }
     {
         if !self.is_closing {
             self.seen = self.own.wait_unless(rt, self.seen, self.is_closed);
@@ -202,9 +216,13 @@ impl<'a> OutGate<'a> {
 }
 
 impl<'a> WriterGate for OutGate<'a> {
-    ghost polls = { λ g. record { idle = g.idle } };
+    ghost polls = { λ g. record { idle = g.idle; next = g.next } };
 
-    fn idle<R: Wait>(&mut self, rt: &R, _pass: &Pass, next: u64) -> bool {
+    fn begin<R: Wait>(&mut self, _rt: &R, from: u64) {
+        self.next = from;
+    }
+
+    fn idle<R: Wait, W: Outlet>(&mut self, rt: &R, _pass: &Pass, _to: &W, next: u64) -> bool {
         self.count(next);
         self.wakeups.note_posts(rt, self.slot, next);
         if !self.is_closing && self.wait_for_posts(rt) {

@@ -40,6 +40,7 @@ fn guest_of(alloc: Global, script: Script) -> Result<MemoryGuest, AllocError>
         InGate {
             wakes: 0,
             own_wakes: 0,
+            due: None,
         },
         OutGate::new(),
     ))

@@ -1,9 +1,8 @@
 //! Joining, leaving, subscribing and fetching.
 ghost use Rattle.std.specs.Prelude.{◌≡◌, ◌==◌, IfOk, codes};
 ghost use Rattle.std.specs.List.{starts_with};
-ghost use Rattle.kern_core.specs.Connections.{join_turn, leave_turn, subscribing, new_subscription};
-ghost use Rattle.kern_core.specs.Connections.{fetching, fetch_turn};
-ghost use Rattle.kern_core.specs.Connections.{status_to, first_status, is_busy, state_of};
+ghost use Rattle.kern_core.specs.Connections.{join_turn, leave_turn, subscribing, new_subscription, fetching};
+ghost use Rattle.kern_core.specs.Connections.{fetch_turn, status_to, first_status, is_busy, state_of};
 ghost use Rattle.kern_peers.specs.Connections.{same_channel};
 ghost use Rattle.kern_core.specs.Represents.{RepresentsKernel, MakesTurn, TakesTurn, HasRoom};
 ghost use Rattle.kern_core.specs.States.{KernelState as KernelStateOf};

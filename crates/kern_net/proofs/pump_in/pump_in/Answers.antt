@@ -84,6 +84,7 @@ loop-reads-preserved g c =
     record {
       own = c.in-Ok-take_piece-2.ensures.same.0;
       seat = c.in-Ok-take_piece-2.ensures.same.1 ∙ c.loop-reads.invariant.seat;
+      woken = c.in-Ok-take_piece-2.ensures.woken;
       woke = (let a = c.loop-reads.invariant.woke in let b = c.in-Ok-take_piece-2.ensures.woke in
           omega (arith, a, b));
       told = (let a = c.loop-reads.invariant.told in let b = c.in-Ok-take_piece-2.ensures.told in

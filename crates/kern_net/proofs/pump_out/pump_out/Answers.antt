@@ -1,7 +1,9 @@
-use Rattle.std.proofs.Common.{refl, ◌∙◌, arith}
+use Rattle.std.proofs.Common.{refl, ap, ◌∙◌, arith}
+use Rattle.kern_net.specs.Gates.{WriterPolls, times}
 use Rattle.kern_net.specs.Out.{NoFetch}
 use Rattle.kern_net.proofs.OutLemmas.{written_first, halted, halted_calls, went_on, went_fetched, went_longer}
 use Rattle.kern_net.proofs.OutLemmas.{went_over, went_closed, went_up, said_yes, said_no, said_once}
+use Rattle.kern_net.proofs.OutLemmas.{since_none, went_since, was_asked}
 use Rattle.kern_net.proofs.pump_out.pump_out.Goals as goal
 
 pub loop-init : goal.loop-init
@@ -9,10 +11,11 @@ loop-init g c = record {
   own = c.requires.pass;
   seat = refl;
   good = c.requires.good;
-  gate = c.requires.gate;
+  gate = ap (λ (x : WriterPolls). x.idle.no) c.begin.ensures ∙ c.requires.gate;
   written = written_first _ _ _ _;
+  since = since_none _ _ _ _ _ (ap (λ (x : WriterPolls). x.next) c.begin.ensures);
   fetched = NoFetch;
-  polled = omega arith;
+  polled = (let t = ap (λ (x : WriterPolls). times x.idle) c.begin.ensures in omega (arith, t));
 }
 
 pub returns-in-Err : goal.returns-in-Err
@@ -49,8 +52,9 @@ returns-then-not-idle g c =
     let i = c.loop.invariant in
     let a = i.polled in
     let n = went_longer _ _ _ _ _ _ _ _ c.in-Ok.ensures.ok in
-    let once = said_once (g.G.WriterGate.polls c.loop.gate) (g.G.WriterGate.polls c.idle.new.self) _
+    let asked = was_asked (g.G.WriterGate.polls c.loop.gate) (g.G.WriterGate.polls c.idle.new.self) _ _
     c.idle.ensures in
+    let once = said_once (g.G.WriterGate.polls c.loop.gate) (g.G.WriterGate.polls c.idle.new.self) _ asked in
     let moved = c.saturating_sub.ensures in
     let short = c.if-saturating_sub-lt-NUMBERS_OF_A_FETCH.true in
     record {
@@ -59,7 +63,7 @@ returns-then-not-idle g c =
           went_closed _ _ _ _ (g.G.WriterGate.polls c.args.gate.now)
           (g.G.WriterGate.polls c.idle.new.self) _ _ _ _ _ _ _
           i.written i.fetched c.in-Ok.ensures.ok c.in-Ok.ensures.good (omega (arith, moved, short))
-          (said_no (g.G.WriterGate.polls c.loop.gate) (g.G.WriterGate.polls c.idle.new.self) _ c.idle.ensures
+          (said_no (g.G.WriterGate.polls c.loop.gate) (g.G.WriterGate.polls c.idle.new.self) _ asked
           c.if-not-idle.true i.gate);
       idle = omega (arith, a, n, once);
     }
@@ -68,13 +72,17 @@ pub loop-preserved-else-not-idle : goal.loop-preserved-else-not-idle
 loop-preserved-else-not-idle g c =
     let i = c.loop.invariant in let s = c.in-Ok.ensures.ok in
     let n = went_longer _ _ _ _ _ _ _ _ s in
-    let y = said_yes _ _ _ c.idle.ensures c.if-not-idle.false in
+    let asked = was_asked (g.G.WriterGate.polls c.loop.gate) (g.G.WriterGate.polls c.idle.new.self) _ _
+    c.idle.ensures in
+    let y = said_yes (g.G.WriterGate.polls c.loop.gate) (g.G.WriterGate.polls c.idle.new.self) _ asked
+    c.if-not-idle.false in
     record {
       own = c.fetch_on.ensures.same.0;
       seat = c.fetch_on.ensures.same.1 ∙ i.seat;
       good = c.in-Ok.ensures.good;
       gate = y.1 ∙ i.gate;
       written = went_on _ _ _ _ _ _ _ _ _ _ i.written s;
+      since = since_none _ _ _ _ _ (ap (λ (x : WriterPolls). x.next) c.idle.ensures);
       fetched = went_fetched _ _ _ _ _ _ _ _ _ _ i.fetched s;
       polled = (let a = i.polled in let m = y.0 in omega (arith, n, a, m));
     }
@@ -90,6 +98,7 @@ loop-preserved g c =
       good = c.in-Ok.ensures.good;
       gate = i.gate;
       written = went_on _ _ _ _ _ _ _ _ _ _ i.written s;
+      since = went_since _ _ _ _ _ _ _ _ _ i.since s;
       fetched = went_fetched _ _ _ _ _ _ _ _ _ _ i.fetched s;
       polled = omega (arith, n, a);
     }
@@ -98,4 +107,4 @@ pub idle-requires : goal.idle-requires
 idle-requires g c =
     let moved = c.saturating_sub.ensures in
     let short = c.if-saturating_sub-lt-NUMBERS_OF_A_FETCH.true in
-    went_up _ _ _ _ _ _ _ _ c.in-Ok.ensures.ok (omega (arith, moved, short))
+    went_up _ _ _ _ _ _ _ _ _ c.loop.invariant.since c.in-Ok.ensures.ok (omega (arith, moved, short))

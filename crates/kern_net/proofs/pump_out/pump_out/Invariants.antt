@@ -2,7 +2,7 @@ use Rattle.std.proofs.Common.{◌≡◌}
 use Rattle.base_streams.specs.States.{IsWritable}
 use Rattle.kern_net.specs.Gates.{PolledForEach}
 use Rattle.kern_net.specs.Out.{FetchedOn}
-use Rattle.kern_net.proofs.OutLemmas.{Written}
+use Rattle.kern_net.proofs.OutLemmas.{Written, Since}
 use Rattle.kern_net.proofs.pump_out.pump_out.Given as goal
 use Rattle.kern_net.specs.Routes.{target_of}
 
@@ -14,6 +14,8 @@ invariant-loop g l = record {
   gate : (g.G.WriterGate.polls l.gate).idle.no ≡ 0;
   written : Written (target_of l.route) (g.W.Outlet.state l.fn.to)
       (g.W.Outlet.state l.to) l.from l.next l.pass.seen;
+  since : Since (target_of l.route) (g.W.Outlet.state l.to) (g.G.WriterGate.polls l.gate).next l.next
+      l.pass.seen;
   fetched : FetchedOn l.route.connection l.from l.fn.pass l.pass l.next;
   polled : PolledForEach l.fn.pass l.pass (g.G.WriterGate.polls l.fn.gate) (g.G.WriterGate.polls l.gate);
 }
