@@ -12,10 +12,13 @@ use std::test::Fail;
 /// A program that writes a letter and halts, and a disconnect, behind which nothing is read.
 const LETTER: &str = r#"
 > {"seq":1,"type":"request","command":"initialize"}
-< {"body":{"supportsConfigurationDoneRequest":true,"supportsDisassembleRequest":true,
+< {"body":{"exceptionBreakpointFilters":[{"default":true,"filter":"undefined",
+    "label":"Undefined opcodes"},{"default":false,"filter":"halt","label":"HLT"}],
+    "supportsConfigurationDoneRequest":true,"supportsDisassembleRequest":true,
     "supportsEvaluateForHovers":true,"supportsExceptionInfoRequest":true,
-    "supportsFunctionBreakpoints":true,"supportsLoadedSourcesRequest":true,
-    "supportsReadMemoryRequest":true,"supportsRestartRequest":true,"supportsSetVariable":true,
+    "supportsFunctionBreakpoints":true,"supportsGotoTargetsRequest":true,
+    "supportsLoadedSourcesRequest":true,"supportsReadMemoryRequest":true,
+    "supportsRestartRequest":true,"supportsSetVariable":true,
     "supportsSteppingGranularity":true,"supportsTerminateRequest":true,
     "supportsWriteMemoryRequest":true},"command":"initialize","request_seq":1,"seq":1,"success":true,
     "type":"response"}
@@ -38,10 +41,13 @@ const LOOP: &str = r#"
 > hello
 < {"command":"","message":"not a request","request_seq":0,"seq":1,"success":false,"type":"response"}
 > {"seq":2,"type":"request","command":"initialize"}
-< {"body":{"supportsConfigurationDoneRequest":true,"supportsDisassembleRequest":true,
+< {"body":{"exceptionBreakpointFilters":[{"default":true,"filter":"undefined",
+    "label":"Undefined opcodes"},{"default":false,"filter":"halt","label":"HLT"}],
+    "supportsConfigurationDoneRequest":true,"supportsDisassembleRequest":true,
     "supportsEvaluateForHovers":true,"supportsExceptionInfoRequest":true,
-    "supportsFunctionBreakpoints":true,"supportsLoadedSourcesRequest":true,
-    "supportsReadMemoryRequest":true,"supportsRestartRequest":true,"supportsSetVariable":true,
+    "supportsFunctionBreakpoints":true,"supportsGotoTargetsRequest":true,
+    "supportsLoadedSourcesRequest":true,"supportsReadMemoryRequest":true,
+    "supportsRestartRequest":true,"supportsSetVariable":true,
     "supportsSteppingGranularity":true,"supportsTerminateRequest":true,
     "supportsWriteMemoryRequest":true},"command":"initialize","request_seq":2,"seq":2,"success":true,
     "type":"response"}
