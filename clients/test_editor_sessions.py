@@ -530,6 +530,32 @@ class Boards(Session):
         self.assertEqual(editor.refusal("writeMemory", memoryReference="0x0000", data="AA=="), "no program is stopped")
         self.assertEqual(editor.do("readMemory", memoryReference="0x0000", count=1)["data"], "ww==")
 
+    def test_a_run_goes_on_from_another_line(self):
+        editor = self.editor()
+        path = self.count()
+        editor.run_to(path, SHOW)
+        targets = editor.do("gotoTargets", source={"path": path}, line=8)["targets"]
+        self.assertEqual([it["line"] for it in targets], [8])
+        editor.do("goto", threadId=1, targetId=targets[0]["id"])
+        self.assertEqual((editor.stop(), editor.frames()[0][1]), ("goto", 8))
+        editor.do("continue", threadId=1)
+        self.assertEqual(editor.output_to_end(), ("", 0))
+
+    def test_a_filter_holds_the_run_at_its_end(self):
+        editor = self.editor()
+        editor.launch(self.count())
+        editor.do("setExceptionBreakpoints", filters=["halt"])
+        editor.do("configurationDone")
+        self.assertEqual((editor.stop(), editor.evaluate("B")), ("step", "000H"))
+        editor.do("continue", threadId=1)
+        editor.events_to("terminated")
+
+    def test_input_is_typed_before_the_first_step(self):
+        editor = self.editor()
+        editor.launch(self.program("START: IN 1\n       OUT 1\n       HLT\n       END START\n"), input="K")
+        editor.do("configurationDone")
+        self.assertEqual(editor.output_to_end(), ("K", 0))
+
     def test_disassembly_forward_and_back(self):
         editor = self.editor()
         editor.run_to(self.count(), SHOW)
