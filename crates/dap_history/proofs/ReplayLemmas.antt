@@ -142,6 +142,21 @@ in_turn old mid new first second =
       breakpoints = y.breakpoints ∙ x.breakpoints;
     }
 
+pub rest_then : (mid new : LabState) (now : Board) (x : KeepsRest now mid) → KeepsRest x.now new
+    → KeepsRest now new
+rest_then mid new now x y = record {
+  now = y.now;
+  represents = y.represents;
+  loads = y.loads ∙ x.loads;
+  symbols = y.symbols ∙ x.symbols;
+  sources = y.sources ∙ x.sources;
+  breakpoints = y.breakpoints ∙ x.breakpoints;
+}
+
+pub rest_on : (mid new : LabState) (now : Board) → KeepsRest now mid → OnlyRunChanges mid new
+    → KeepsRest now new
+rest_on mid new now x changes = rest_then mid new now x (changes x.now x.represents)
+
 steps_keep : (k : ℕ) (b : Board) → SameRest (after_steps k b) b
 steps_keep zero b = (refl, refl, refl, refl)
 steps_keep (suc k) b = steps_keep k b

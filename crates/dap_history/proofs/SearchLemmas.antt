@@ -18,7 +18,7 @@ use Rattle.dap_history.specs.declared.goal.Goal.{Goal}
 use Rattle.dap_history.specs.declared.goal.Goal.TheVariants.{Statement, Breakpoint}
 use Rattle.dap_history.specs.declared.input.Recorded.{Recorded}
 use Rattle.dap_history.specs.Logs.{Ascends, later_than}
-use Rattle.dap_history.specs.Runs.{at_from, board_at, detached_run, RunsDetached, OnlyRunChanges, KeepsRest}
+use Rattle.dap_history.specs.Runs.{at_from, board_at, detached_run, RunsDetached, OnlyRunChanges}
 use Rattle.dap_history.specs.Searches.{is_goal, last_below, goal_below, passes, stride_of, IsMarked}
 use Rattle.dap_history.specs.Searches.{SearchState, IsSearchOf, IsScanOf, IsUnderWay}
 use Rattle.dap_history.specs.declared.scan.Scan.{Scan}
@@ -198,21 +198,6 @@ slice_to_changes marks marks' old new n (Ok a) applies same =
     λ b represents.
     let x = applies b represents (λ e. cc) in
     keeps_rest new x.0 b x.2 (run_keeps b.run (first_mark marks n b) b x.0 (Ok a) x.1)
-
-pub rest_then : (mid new : LabState) (now : Board) (x : KeepsRest now mid) → KeepsRest x.now new
-    → KeepsRest now new
-rest_then mid new now x y = record {
-  now = y.now;
-  represents = y.represents;
-  loads = y.loads ∙ x.loads;
-  symbols = y.symbols ∙ x.symbols;
-  sources = y.sources ∙ x.sources;
-  breakpoints = y.breakpoints ∙ x.breakpoints;
-}
-
-pub rest_on : (mid new : LabState) (now : Board) → KeepsRest now mid → OnlyRunChanges mid new
-    → KeepsRest now new
-rest_on mid new now x changes = rest_then mid new now x (changes x.now x.represents)
 
 -- ---- a search
 

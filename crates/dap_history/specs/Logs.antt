@@ -1,9 +1,11 @@
 -- The inputs of a run, each with the number of steps after which it came.
-use Rattle.std.specs.Prelude.{ℕ, ◌+◌, ◌≤◌, List, [], ◌∷◌, length, nat_le, nat_lt}
+use Rattle.std.specs.Prelude.{◌≡◌, ◌↔◌, ℕ, ◌+◌, ◌≤◌, ◌<◌, Result, Err, List, [], ◌∷◌, length, nat_le, nat_lt}
 use Rattle.std.specs.List.{filter, fold, sum_by}
 use Rattle.dap_history.specs.declared.input.Input.{Input}
 use Rattle.dap_history.specs.declared.input.Input.TheVariants as input
 use Rattle.dap_history.specs.declared.input.Recorded.{Recorded}
+use Rattle.dap_history.specs.declared.fault.LogFault.{LogFault}
+use Rattle.dap_history.specs.declared.fault.LogFault.TheVariants.{Full}
 
 -- from c on, the counts never fall
 abbrev pub Ascends : ℕ → List Recorded → Type 0
@@ -33,3 +35,7 @@ size_of_input _ = 64
 
 abbrev pub log_size : List Recorded → ℕ
 log_size log = sum_by (λ r. size_of_input r.input) log
+
+-- an input is refused as too much exactly if the log would count more than its limit with it
+abbrev pub IsFullIf : Result (Unit {0}) LogFault → Input → List Recorded → Type 0
+IsFullIf result i log = (result ≡ Err Full) ↔ (4194304 < log_size log + size_of_input i)

@@ -1,6 +1,7 @@
 //! The log of a run's inputs.
 ghost use Rattle.std.specs.Prelude.{◌≡◌, ◌≤◌, ◌<◌, ◌+◌, ◌↔◌, [], ◌∷◌, ◌++◌, length, IsTrue, OnOk, OnErr, Err};
-ghost use Rattle.dap_history.specs.Logs.{Ascends, latest, up_to, later_than, size_of_input, log_size};
+ghost use Rattle.dap_history.specs.Logs.{IsFullIf, Ascends, latest, up_to, later_than, size_of_input};
+ghost use Rattle.dap_history.specs.Logs.{log_size};
 
 use crate::fault::LogFault;
 use crate::input::{Input, Recorded};
@@ -103,7 +104,7 @@ impl Log {
         requires { latest self.old ≤ count }
         ensures ok { OnOk result (self.new ≡ self.old ++ record { count = count; input = input } ∷ []) }
         ensures err { OnErr result (self.new ≡ self.old) }
-        ensures full { (result ≡ Err LogFault.Full) ↔ (4194304 < log_size self.old + size_of_input input) }
+        ensures full { IsFullIf result input self.old }
     {
         let size = self.size.saturating_add(size_of(&input));
         if size > LOG_LIMIT {

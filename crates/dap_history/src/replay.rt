@@ -6,7 +6,7 @@ ghost use Rattle.lab_core.specs.Slices.{after_steps, left_by};
 ghost use Rattle.lab_core.specs.Labs.{RepresentsBoard};
 ghost use Rattle.lab_core.specs.Events.{Fits};
 ghost use Rattle.lab_core.specs.Moments.{IsMomentOf, put_back};
-ghost use Rattle.dap_history.specs.Runs.{after_event, after_input, at_from, RunsDetached, after_rewind};
+ghost use Rattle.dap_history.specs.Runs.{after_event, after_input, at_from, RunsDetached};
 ghost use Rattle.dap_history.specs.Runs.{IsWholeSlice, KeepsRest, OnlyRunChanges};
 
 use crate::fault::ReplayFault;
@@ -192,8 +192,8 @@ pub fn replay(
     make_steps(lab, to.saturating_sub(at))
 }
 
-/// Puts a run back to a moment at which it had made `from` steps, makes it go on from there to where it has
-/// made `to`, with these inputs on the way, and stops it with a debugger attached.
+/// Puts a run back to a moment at which it had made `from` steps, and makes it go on from there, with no
+/// debugger, to where it has made `to`, with these inputs on the way.
 pub fn rewind(
     alloc: Global,
     lab: &mut Lab,
@@ -203,12 +203,10 @@ pub fn rewind(
     to: u64,
 ) -> Result<(), ReplayFault>
     ensures ok { (was now : Board) → IsMomentOf moment.now was → RepresentsBoard lab.old now
-        → OnOk result (RepresentsBoard lab.new (after_rewind (at_from from was log.now to) now)) }
+        → OnOk result (RunsDetached (at_from from was log.now to) now lab.new) }
     ensures rest { (was now : Board) → IsMomentOf moment.now was → RepresentsBoard lab.old now
         → KeepsRest now lab.new }
 {
     lab.put_back(moment)?;
-    replay(alloc, lab, log, from, to)?;
-    lab.hold();
-    Ok(())
+    replay(alloc, lab, log, from, to)
 }

@@ -1,9 +1,11 @@
 //! Saved moments of a run, and which of them stay as the run goes on.
-ghost use Rattle.std.specs.Prelude.{◌≡◌, ◌≤◌, ◌<◌, length, IfSome, nat_le, nat_lt, vec_len};
+ghost use Rattle.std.specs.Prelude.{◌≡◌, ◌≤◌, ◌<◌, List, IfSome, nat_le, nat_lt, vec_len, option_copied};
 ghost use Rattle.std.specs.Prelude.{vec_capacity, ◌^◌};
-ghost use Rattle.std.specs.List.{HoldsAt, filter};
+ghost use Rattle.std.specs.List.{All, filter};
+ghost use Rattle.lab_core.specs.Board.{Board};
+ghost use Rattle.dap_history.specs.declared.input.Recorded.{Recorded};
 ghost use Rattle.dap_history.specs.Spacing.{spacing, stays};
-ghost use Rattle.dap_history.specs.Histories.{is_due};
+ghost use Rattle.dap_history.specs.Histories.{IsSavedOf, only_if, count_of, is_due};
 
 use lab_core::lab::moments::Moment;
 
@@ -52,6 +54,26 @@ pub(crate) fn keep_before(moments: &mut Vec<SavedMoment>, count: u64)
     moments.retain(move |saved| saved.count < count);
 }
 
+/// A moment, if it was saved after at most `count` steps.
+pub(crate) fn if_up_to(saved: Option<SavedMoment>, count: u64) -> Option<SavedMoment>
+    ensures { result ≡ only_if (λ saved. nat_le saved.count count) saved }
+{
+    match saved {
+        Some(saved) if saved.count <= count => Some(saved),
+        _ => None,
+    }
+}
+
+/// A moment, if it was saved before `count` steps.
+pub(crate) fn if_before(saved: Option<SavedMoment>, count: u64) -> Option<SavedMoment>
+    ensures { result ≡ only_if (λ saved. nat_lt saved.count count) saved }
+{
+    match saved {
+        Some(saved) if saved.count < count => Some(saved),
+        _ => None,
+    }
+}
+
 /// Drops the moments that don't stay, now that the run has made `now` steps.
 pub(crate) fn thin(moments: &mut Vec<SavedMoment>, now: u64)
     ensures items { moments.new.items ≡ filter (λ saved. stays saved.count now) moments.old.items }
@@ -61,27 +83,34 @@ pub(crate) fn thin(moments: &mut Vec<SavedMoment>, now: u64)
     moments.retain(move |saved| stays(saved.count, now));
 }
 
+/// After how many steps a moment was saved, or 0 if there is none, as at the start.
+pub(crate) fn count_of(saved: Option<&SavedMoment>) -> u64
+    ensures { result ≡ count_of (option_copied saved.entry) }
+{
+    match saved {
+        Some(saved) => saved.count,
+        None => 0,
+    }
+}
+
 /// Whether a moment is to be saved after `count` steps.
 pub(crate) fn is_due(moments: &[SavedMoment], count: u64) -> bool
     ensures { result ≡ is_due moments.now count }
 {
-    let last = match moments.last() {
-        Some(saved) => saved.count,
-        None => 0,
-    };
-    last / UNIT < count / UNIT
+    count_of(moments.last()) / UNIT < count / UNIT
 }
 
-/// The index of the last moment that was saved after at most `count` steps.
-pub(crate) fn nearest(moments: &[SavedMoment], count: u64) -> Option<usize>
-    ensures within { IfSome result (λ i. i < length moments.now) }
-    ensures before { IfSome result (λ i. HoldsAt (λ saved. saved.count ≤ count) moments.now i) }
+/// The last moment that was saved after at most `count` steps.
+pub(crate) fn nearest(moments: &[SavedMoment], count: u64) -> Option<&SavedMoment>
+    ensures before { count_of (option_copied result) ≤ count }
+    ensures saved { (start : Board) (log : List Recorded) → All (IsSavedOf start log) moments.now
+        → IfSome (option_copied result) (IsSavedOf start log) }
 {
     let mut i = moments.len();
     while i > 0 {
         i -= 1;
         if moments[i].count <= count {
-            return Some(i);
+            return Some(&moments[i]);
         }
     }
     None

@@ -1,18 +1,17 @@
 //! Searches for the last count of steps at which a run was at a goal.
-ghost use Rattle.std.specs.Prelude.{◌≡◌, ◌≤◌, ℕ, List, None, IfOk, OnOk, IfSome};
+ghost use Rattle.std.specs.Prelude.{◌≡◌, ◌≤◌, ℕ, List, None, IfOk, OnOk, OnErr, IfSome};
 ghost use Rattle.lab_core.specs.Board.{Board};
 ghost use Rattle.lab_core.specs.Labs.{RepresentsBoard};
 ghost use Rattle.dap_history.specs.declared.goal.Goal.{Goal};
 ghost use Rattle.dap_history.specs.declared.input.Recorded.{Recorded};
-ghost use Rattle.dap_history.specs.Runs.{board_at, after_rewind, KeepsRest, RunsDetached, OnlyRunChanges};
-ghost use Rattle.dap_history.specs.Histories.{IsHistoryOf, HasRun};
+ghost use Rattle.dap_history.specs.Runs.{board_at, KeepsRest, OnlyRunChanges};
+ghost use Rattle.dap_history.specs.Histories.{HasRun, ForEachRun, KeepsRestAndHistory};
 ghost use Rattle.dap_history.specs.Searches.{goal_below, IsSearchOf, SearchedOn, IsUnderWay};
 ghost use Rattle.dap_history.specs.Searches.{ForEachSearch};
 
 use crate::fault::ReplayFault;
 use crate::goal::Goal;
 use crate::history::History;
-use crate::replay::go_on;
 use crate::scan::{Scan, marks_of};
 use lab_core::lab::Lab;
 use lab_core::lab::moments::Moment;
@@ -64,13 +63,20 @@ fn chunk(goal: Goal) -> u64 {
 }
 
 impl Search {
-    /// Begins a search below `count` steps, at which the run is.
-    pub fn new(alloc: Global, lab: &Lab, goal: Goal, count: u64) -> Result<Search, AllocError>
-        ensures { (start now : Board) (log : List Recorded) → RepresentsBoard lab.now now
-            → HasRun (board_at start log count) now → IfOk result (IsSearchOf start log now goal count) }
+    /// Begins a search below `count` steps, at which the run is, and holds the run there.
+    ///
+    /// # Errors
+    ///
+    /// If memory runs out the run isn't held, and nothing changes.
+    pub fn new(alloc: Global, lab: &mut Lab, goal: Goal, count: u64) -> Result<Search, AllocError>
+        ensures ok { (start now : Board) (log : List Recorded) → RepresentsBoard lab.old now
+            → HasRun (board_at start log count) now
+            → IfOk result (λ search. SearchedOn start log now goal count None search lab.new) }
+        ensures err { OnErr result (lab.new ≡ lab.old) }
     {
         let marks = marks_of(alloc, lab)?;
         let home = lab.moment()?;
+        lab.hold();
         Ok(Search {
             scan: Scan {
                 goal,
@@ -94,10 +100,15 @@ impl Search {
     ///
     /// Those of `History::go_to`. The run may then be at any of its moments, and may be going on; another
     /// call of that may put it where it was.
-    pub fn go_on(&mut self, history: &History, lab: &mut Lab) -> Result<Option<u64>, ReplayFault>
-        ensures ok { ForEachSearch history.now self.old lab.old (λ start now goal n. IfOk result
-            (λ found. SearchedOn start history.now.log now goal n found self.new lab.new)) }
-        ensures rest { ForEachSearch history.now self.old lab.old (λ _ now _ _. KeepsRest now lab.new) }
+    pub fn go_on(
+        &mut self,
+        history: &mut History,
+        lab: &mut Lab,
+    ) -> Result<Option<u64>, ReplayFault>
+        ensures ok { ForEachSearch history.old self.old lab.old (λ start now goal n. IfOk result
+            (λ found. SearchedOn start history.old.log now goal n found self.new lab.new)) }
+        ensures rest { ForEachSearch history.old self.old lab.old
+            (λ start now _ _. KeepsRestAndHistory history.old history.new lab.new start now) }
     {
         self.enter(history, lab)?;
         self.go_farther(history, lab)?;
@@ -114,10 +125,11 @@ impl Search {
     }
 
     // Makes the run go on from where the scan is, or from the low end of a new part.
-    fn enter(&mut self, history: &History, lab: &mut Lab) -> Result<(), ReplayFault>
-        ensures ok { ForEachSearch history.now self.old lab.old (λ start now goal n. OnOk result
-            (IsUnderWay start history.now.log now goal n self.new lab.new)) }
-        ensures rest { ForEachSearch history.now self.old lab.old (λ _ now _ _. KeepsRest now lab.new) }
+    fn enter(&mut self, history: &mut History, lab: &mut Lab) -> Result<(), ReplayFault>
+        ensures ok { ForEachSearch history.old self.old lab.old (λ start now goal n. OnOk result
+            (IsUnderWay start history.old.log now goal n self.new lab.new)) }
+        ensures rest { ForEachSearch history.old self.old lab.old
+            (λ start now _ _. KeepsRestAndHistory history.old history.new lab.new start now) }
     {
         match self.here.take() {
             Some(here) => {
@@ -129,16 +141,15 @@ impl Search {
     }
 
     // Makes the run go on from the low end of a new part.
-    fn begin_below(&mut self, history: &History, lab: &mut Lab) -> Result<(), ReplayFault>
+    fn begin_below(&mut self, history: &mut History, lab: &mut Lab) -> Result<(), ReplayFault>
         requires { self.old.here ≡ None }
-        ensures ok { ForEachSearch history.now self.old lab.old (λ start now goal n. OnOk result
-            (IsUnderWay start history.now.log now goal n self.new lab.new)) }
-        ensures rest { (start now : Board) → IsHistoryOf start history.now → RepresentsBoard lab.old now
-            → KeepsRest now lab.new }
+        ensures ok { ForEachSearch history.old self.old lab.old (λ start now goal n. OnOk result
+            (IsUnderWay start history.old.log now goal n self.new lab.new)) }
+        ensures rest { ForEachRun history.old lab.old
+            (KeepsRestAndHistory history.old history.new lab.new) }
     {
         let low = history.low_end(self.high, self.width);
-        history.go_to(lab, low)?;
-        go_on(lab)?;
+        history.run_to(lab, low)?;
         self.low = low;
         self.scan.at = low;
         self.scan.best = None;

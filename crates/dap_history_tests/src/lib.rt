@@ -1,7 +1,7 @@
 // The tests of a run's history, apart from its crate. A run goes back to each of its counts of steps, in
 // scattered order, and must be as a plain run from power-on was there that was made step by step: registers,
-// memory, devices and live frames. A run with a saved moment does so at some counts. Logs, and which moments
-// stay, are compared with what the tests count themselves.
+// memory, devices and live frames. A run with a saved moment does so at some counts, and one with a near
+// moment step by step. Logs, and which moments stay, are compared with what the tests count themselves.
 #![tactic(auto)]
 
 #[cfg(test)]
@@ -10,6 +10,8 @@ mod ends;
 mod logs;
 #[cfg(test)]
 mod long;
+#[cfg(test)]
+mod near;
 #[cfg(test)]
 mod play;
 #[cfg(test)]

@@ -33,10 +33,16 @@ const COUNTS: [u64; 7] = [
     2, 1_048_999, 1_049_000, 1_049_001, 1_050_999, 1_051_000, 1_052_000,
 ];
 
-// Makes a plain run go on from one count to another, with its inputs.
-fn go_on(alloc: Global, lab: &mut Lab, from: u64, to: u64) -> Result<(), AllocError> {
+/// Makes a plain run go on from one count to another, with its inputs after the first.
+pub fn go_on(
+    alloc: Global,
+    lab: &mut Lab,
+    play: Play,
+    from: u64,
+    to: u64,
+) -> Result<(), AllocError> {
     let mut count = from;
-    for (at, given) in LONG.inputs {
+    for (at, given) in play.inputs {
         if from < *at && *at <= to {
             make_steps(lab, count, *at);
             count = *at;
@@ -64,7 +70,7 @@ fn plain(alloc: Global) -> Result<Vec<Seen>, AllocError> {
     let mut seen = Vec::new(alloc);
     let mut count = 0;
     for to in COUNTS {
-        go_on(alloc, &mut lab, count, to)?;
+        go_on(alloc, &mut lab, LONG, count, to)?;
         count = to;
         seen.push(see(&lab))?;
     }

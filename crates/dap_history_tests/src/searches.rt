@@ -29,11 +29,11 @@ struct Found {
 }
 
 // Begins a search, at the second try if the first finds no memory.
-fn search_of(alloc: Global, live: &Live, goal: Goal, count: u64) -> Result<Search, AllocError> {
-    if let Ok(search) = Search::new(alloc, &live.lab, goal, count) {
+fn search_of(alloc: Global, live: &mut Live, goal: Goal, count: u64) -> Result<Search, AllocError> {
+    if let Ok(search) = Search::new(alloc, &mut live.lab, goal, count) {
         return Ok(search);
     }
-    Search::new(alloc, &live.lab, goal, count)
+    Search::new(alloc, &mut live.lab, goal, count)
 }
 
 // Goes back from a count to a goal.
@@ -42,7 +42,7 @@ fn find(alloc: Global, live: &mut Live, goal: Goal, from: u64) -> Result<Found, 
     let seen = see(&live.lab);
     let mut search = search_of(alloc, live, goal, from)?;
     for pauses in 0..1000 {
-        match search.go_on(&live.history, &mut live.lab) {
+        match search.go_on(&mut live.history, &mut live.lab) {
             Ok(None) => is_kept = is_kept && see(&live.lab) == seen,
             Ok(Some(count)) => {
                 let there = see(&live.lab);

@@ -23,4 +23,4 @@ returns-clause-history c = λ start is has.
     (c.push_reserved.ensures.items
     ∙ ap (λ ms. ms ++ saved ∷ [])
     (c.thin.ensures.items ∙ ap (filter test) (c.in_ok-reserve.ensures.items ∙ moments)))
-    moment
+    (ap (λ (h : HistoryState). h.near) c.self.view_is) moment
