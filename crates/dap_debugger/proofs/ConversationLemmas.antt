@@ -1,6 +1,8 @@
 -- Exchanges of a conversation, one after another.
 use Rattle.std.proofs.Common.{◌≡◌, ◌≢◌, ◌⊎◌, List, [], ◌∷◌, ◌++◌, map, refl, sym, ◌∙◌, ap, subst}
 use Rattle.std.proofs.Common.{ℕ, append_assoc, Option, Some, None, Bool, true, false, inl, inr, arith}
+use Rattle.std.proofs.Common.{is_some}
+use Rattle.std.proofs.Common.{◌||◌}
 use Rattle.std.proofs.lemmas.List.{append-nil, map-append}
 use Rattle.std.proofs.lemmas.Grind.{flat_map-append}
 use Rattle.base_text.specs.Bytes.{Bytes, Text}
@@ -8,9 +10,12 @@ use Rattle.base_streams.specs.States.{OutletState}
 use Rattle.base_streams.specs.Told.{Told, ToldPrefix}
 use Rattle.base_streams.proofs.TellLemmas.{told_on}
 use Rattle.dap_launch.specs.declared.file.FileText.{FileText}
-use Rattle.dap_session.specs.States.{SessionState, session_before_requests, wants_slice}
-use Rattle.dap_session.specs.Represents.{RepresentsSession}
-use Rattle.dap_session.specs.Slices.{Input, request, slice, slice_told, step, play_all, Told as ToldBySession}
+use Rattle.dap_history.specs.declared.goal.Goal.{Goal}
+use Rattle.dap_session.specs.States.{wants_slice}
+use Rattle.dap_record.specs.Recordings.{RecordedState, recorded_before_requests}
+use Rattle.dap_record.specs.Represents.{RepresentsRecorded}
+use Rattle.dap_record.specs.Slices.{Input, request, slice, slice_told, slice_in, goes_on as wants_more, step}
+use Rattle.dap_record.specs.Slices.{play_all, RecordedTold}
 use Rattle.dap_debugger.specs.declared.incoming.Incoming.{Incoming}
 use Rattle.dap_debugger.specs.declared.incoming.Incoming.TheVariants as incoming
 use Rattle.dap_debugger.specs.declared.incoming.StreamEnd.{StreamEnd}
@@ -20,7 +25,7 @@ use Rattle.dap_debugger.specs.Requests.{request_of}
 use Rattle.dap_editor.specs.declared.message.Message.{Message}
 use Rattle.dap_debugger.specs.Sending.{sent_bytes}
 use Rattle.dap_debugger.specs.Given.{Gave}
-use Rattle.dap_debugger.specs.Debuggers.{DebuggerState, Past}
+use Rattle.dap_debugger.specs.Debuggers.{DebuggerState, Past, PastSlice}
 use Rattle.dap_debugger.specs.Conversations.{Exchange, answered, idle, incoming_of, inputs_in, inputs_of}
 use Rattle.dap_debugger.specs.Conversations.{session_after}
 use Rattle.dap_debugger.specs.Conversations.{bytes_for, FindsIn, FindsFiles, Ports, ports, Converses}
@@ -67,32 +72,41 @@ front_on a b c x y p q = record {
 -- ---- a debugger
 
 -- a slice changes nothing if none is wanted
-quiet_step : (s : SessionState) → wants_slice s ≡ false → step slice s ≡ record { messages = []; state = s }
+quiet_run : (o : Option Goal) (v : RecordedState) → (is_some o || wants_slice v.session) ≡ false
+    → slice_in o false v ≡ record { messages = []; state = v }
+quiet_run None v e = rw e refl
+quiet_run (Some goal) v e = refl
+
+quiet_step : (v : RecordedState) → wants_more v ≡ false → step (slice false) v ≡ record {
+  messages = [];
+  state = v;
+}
 unfolding slice_told
-quiet_step s e = rw e refl
+quiet_step v e = quiet_run v.search v e
 
 pub past_quiet : (d : DebuggerState) (inputs : List Input) (bytes : Bytes) → Past d inputs bytes
-    → wants_slice (play_all inputs session_before_requests).state ≡ false
-    → Past d (inputs ++ slice ∷ []) bytes
+    → wants_more (play_all inputs recorded_before_requests).state ≡ false → PastSlice d inputs bytes
 past_quiet d inputs bytes p e =
-    let before = play_all inputs session_before_requests in
-    let quiet = quiet_step before.state e in
-    record {
-      session = subst (RepresentsSession d.session)
-          (sym (played_state inputs slice session_before_requests
-          ∙ ap (λ (t : ToldBySession). t.state) quiet))
-          p.session;
-      before = p.before;
-      messages = played_messages inputs slice session_before_requests
-          ∙ (ap (λ (t : ToldBySession). before.messages ++ t.messages) quiet
-          ∙ (append-nil before.messages ∙ p.messages));
-      count = p.count;
-      wrote = p.wrote;
-    }
+    let before = play_all inputs recorded_before_requests in
+    let quiet = quiet_step before.state e in (
+      false,
+      record {
+        session = subst (RepresentsRecorded d.session)
+            (sym (played_state inputs (slice false) recorded_before_requests
+            ∙ ap (λ (t : RecordedTold). t.state) quiet))
+            p.session;
+        before = p.before;
+        messages = played_messages inputs (slice false) recorded_before_requests
+            ∙ (ap (λ (t : RecordedTold). before.messages ++ t.messages) quiet
+            ∙ (append-nil before.messages ∙ p.messages));
+        count = p.count;
+        wrote = p.wrote;
+      },
+    )
 
 -- if nothing waits to be sent, all was
 past_whole : (d : DebuggerState) (inputs : List Input) (bytes : Bytes) → Past d inputs bytes → d.told ≡ []
-    → bytes ≡ sent_bytes 0 (play_all inputs session_before_requests).messages
+    → bytes ≡ sent_bytes 0 (play_all inputs recorded_before_requests).messages
 past_whole d inputs bytes p sent =
     p.wrote ∙ ap (sent_bytes 0)
     (sym (p.messages ∙ (ap (λ m. p.before ++ m) sent ∙ append-nil p.before)))
@@ -141,7 +155,7 @@ pub answered_body : (may_find : Text → FileText → Type 0) (start now : Ports
     (given : Option (List Incoming)) (came : Incoming) (body shown : Bytes)
     (h : HasConversed may_find start now d) → Gave now.given given (came ∷ []) → came ≡ incoming.Body body
     → shown ≡ body → Answers may_find shown d m
-    → ((inputs : List Input) (bytes : Bytes) → Past m inputs bytes → Past e (inputs ++ slice ∷ []) bytes)
+    → ((inputs : List Input) (bytes : Bytes) → Past m inputs bytes → PastSlice e inputs bytes)
     → HasAnswered may_find start (ports given now.outlet) e
 answered_body may_find start now d m e given came body shown h gave came_is shown_is a runs =
     let before = inputs_of h.exchanges in
@@ -149,20 +163,20 @@ answered_body may_find start now d m e given came body shown h gave came_is show
     let asked = request (request_of shown) each.0 ∷ [] in
     let gave' : Gave now.given given (incoming.Body shown ∷ []) =
     subst (λ i. Gave now.given given (i ∷ [])) (came_is ∙ ap (λ b. incoming.Body b) (sym shown_is)) gave in
-    answered_more may_find start now d e given h (answered shown each.0) gave' each.1
-    (subst (λ l. Past e l (bytes_for h.exchanges)) (append_assoc before asked (slice ∷ []))
-    (runs (before ++ asked) (bytes_for h.exchanges) each.2))
+    let on = runs (before ++ asked) (bytes_for h.exchanges) each.2 in
+    answered_more may_find start now d e given h (answered shown each.0 on.0) gave' each.1
+    (subst (λ l. Past e l (bytes_for h.exchanges)) (append_assoc before asked (slice on.0 ∷ [])) on.1)
 
 -- no body came
 pub answered_nothing : (may_find : Text → FileText → Type 0) (start now : Ports) (d e : DebuggerState)
     (given : Option (List Incoming)) (came : Incoming) (h : HasConversed may_find start now d)
     → Gave now.given given (came ∷ []) → came ≡ incoming.Nothing
-    → ((inputs : List Input) (bytes : Bytes) → Past d inputs bytes → Past e (inputs ++ slice ∷ []) bytes)
+    → ((inputs : List Input) (bytes : Bytes) → Past d inputs bytes → PastSlice e inputs bytes)
     → HasAnswered may_find start (ports given now.outlet) e
 answered_nothing may_find start now d e given came h gave came_is runs =
-    answered_more may_find start now d e given h idle (subst (λ i. Gave now.given given
-    (i ∷ [])) came_is gave) tt
-    (runs (inputs_of h.exchanges) (bytes_for h.exchanges) h.past)
+    let on = runs (inputs_of h.exchanges) (bytes_for h.exchanges) h.past in
+    answered_more may_find start now d e given h (idle on.0) (subst (λ i. Gave now.given given
+    (i ∷ [])) came_is gave) tt on.1
 
 -- ---- how it begins
 
@@ -258,13 +272,13 @@ before_last may_find start now d h before after e some =
 pub goes_on_with : (may_find : Text → FileText → Type 0) (start now : Ports) (d e : DebuggerState)
     (outlet : OutletState) (has_ended : Bool) (h : HasAnswered may_find start now d)
     → Writes d e now.outlet outlet
-    → ((s : SessionState) → RepresentsSession e.session s → has_ended ≡ s.settings.has_ended)
+    → ((v : RecordedState) → RepresentsRecorded e.session v → has_ended ≡ v.session.settings.has_ended)
     → has_ended ≡ false → HasConversed may_find start (ports now.given outlet) e
 goes_on_with may_find start now d e outlet has_ended h w told live =
     let all = all_of h in
     let each = w.each (inputs_of all) (bytes_for h.exchanges) h.past in
     let whole = past_whole e (inputs_of all) (bytes_for h.exchanges ++ each.0) each.1 w.sent in
-    let goes_on = sym (told (session_after all) each.1.session) ∙ live in
+    let goes_on = sym (told _ each.1.session) ∙ live in
     record {
       exchanges = all;
       came = h.came;
@@ -284,7 +298,7 @@ goes_on_with may_find start now d e outlet has_ended h w told live =
 pub disconnects : (may_find : Text → FileText → Type 0) (start now : Ports) (d e : DebuggerState)
     (outlet : OutletState) (has_ended : Bool) (h : HasAnswered may_find start now d)
     → Writes d e now.outlet outlet
-    → ((s : SessionState) → RepresentsSession e.session s → has_ended ≡ s.settings.has_ended)
+    → ((v : RecordedState) → RepresentsRecorded e.session v → has_ended ≡ v.session.settings.has_ended)
     → has_ended ≡ true → Converses may_find start (ports now.given outlet) end.Disconnected
 disconnects may_find start now d e outlet has_ended h w told over =
     let all = all_of h in
@@ -297,7 +311,7 @@ disconnects may_find start now d e outlet has_ended h w told over =
       last = [];
       came = subst (λ l. Gave start.given now.given l) (sym (append-nil (map incoming_of all))) h.came;
       found = h.found;
-      ends = (refl, sym (told (session_after all) each.1.session) ∙ over, took);
+      ends = (refl, sym (told _ each.1.session) ∙ over, took);
       goes_on = before_last may_find start now d h;
     }
 

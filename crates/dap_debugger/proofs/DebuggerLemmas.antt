@@ -2,15 +2,15 @@ use Rattle.std.proofs.Common.{◌≡◌, ℕ, ◌+◌, List, [], ◌∷◌, ◌+
 use Rattle.std.proofs.Common.{append_assoc, length-append}
 use Rattle.std.proofs.lemmas.List.{append-nil}
 use Rattle.dap_editor.specs.declared.message.Message.{Message}
-use Rattle.dap_session.specs.States.{SessionState, session_before_requests}
-use Rattle.dap_session.specs.Slices.{Input, step, play_all}
-use Rattle.dap_session.specs.Represents.{RepresentsSession, Tells}
+use Rattle.dap_record.specs.Recordings.{RecordedState, recorded_before_requests}
+use Rattle.dap_record.specs.Slices.{Input, step, play_all}
+use Rattle.dap_record.specs.Represents.{RepresentsRecorded, Tells}
 use Rattle.dap_debugger.specs.Sending.{sent_bytes, concat_messages}
 use Rattle.dap_debugger.specs.Debuggers.{DebuggerState, Past}
 use Rattle.dap_debugger.proofs.SendingLemmas.{sent_bytes-append}
 
 -- one input more
-pub played_messages : (inputs : List Input) (input : Input) (s : SessionState)
+pub played_messages : (inputs : List Input) (input : Input) (s : RecordedState)
     → (play_all (inputs ++ input ∷ []) s).messages
     ≡ (play_all inputs s).messages ++ (step input (play_all inputs s).state).messages
 played_messages [] input s = append-nil (step input s).messages
@@ -20,7 +20,7 @@ played_messages (i ∷ inputs) input s =
     ∙ sym (append_assoc first.messages (play_all inputs first.state).messages
     (step input (play_all inputs first.state).state).messages)
 
-pub played_state : (inputs : List Input) (input : Input) (s : SessionState)
+pub played_state : (inputs : List Input) (input : Input) (s : RecordedState)
     → (play_all (inputs ++ input ∷ []) s).state ≡ (step input (play_all inputs s).state).state
 played_state [] input s = refl
 played_state (i ∷ inputs) input s = played_state inputs input (step i s).state
@@ -35,21 +35,21 @@ joined_push (list ∷ lists) messages =
 -- one request or slice more
 pub past_more : (old new : DebuggerState) (inputs : List Input) (bytes : List ℕ) (input : Input)
     (messages : List Message) (lists all : List (List Message)) → Past old inputs bytes
-    → Tells (step input (play_all inputs session_before_requests).state) messages new.session
+    → Tells (step input (play_all inputs recorded_before_requests).state) messages new.session
     → new.sent ≡ old.sent
     → old.told ≡ concat_messages lists → all ≡ lists ++ messages ∷ [] → new.told ≡ concat_messages all
     → Past new (inputs ++ input ∷ []) bytes
 past_more old new inputs bytes input messages lists all p tells sent old_is all_is new_is =
-    let before = (play_all inputs session_before_requests).messages in
+    let before = (play_all inputs recorded_before_requests).messages in
     let told : new.told ≡ old.told ++ messages =
     new_is ∙ (ap concat_messages all_is ∙
     (joined_push lists messages ∙ ap (λ m. m ++ messages) (sym old_is))) in
     record {
-      session = subst (RepresentsSession new.session)
-          (sym (played_state inputs input session_before_requests)) tells.1;
+      session = subst (RepresentsRecorded new.session)
+          (sym (played_state inputs input recorded_before_requests)) tells.represents;
       before = p.before;
-      messages = played_messages inputs input session_before_requests
-          ∙ (ap (λ m. before ++ m) (sym tells.0) ∙ (ap (λ m. m ++ messages) p.messages
+      messages = played_messages inputs input recorded_before_requests
+          ∙ (ap (λ m. before ++ m) (sym tells.messages_are) ∙ (ap (λ m. m ++ messages) p.messages
           ∙ (append_assoc p.before old.told messages ∙ ap (λ m. p.before ++ m) (sym told))));
       count = sent ∙ p.count;
       wrote = p.wrote;
@@ -60,7 +60,7 @@ pub past_sent : (old new : DebuggerState) (inputs : List Input) (bytes more : Li
     → new.session ≡ old.session → new.told ≡ [] → new.sent ≡ old.sent + length old.told
     → more ≡ sent_bytes old.sent old.told → Past new inputs (bytes ++ more)
 past_sent old new inputs bytes more p session told sent is = record {
-  session = subst (λ v. RepresentsSession v (play_all inputs session_before_requests).state) (sym session)
+  session = subst (λ v. RepresentsRecorded v (play_all inputs recorded_before_requests).state) (sym session)
       p.session;
   before = p.before ++ old.told;
   messages = p.messages ∙ (sym (append-nil (p.before ++ old.told))

@@ -1,14 +1,15 @@
 -- A conversation with an editor: what came from it, what was found for it, and what went out to it.
 use Rattle.std.specs.Prelude.{◌≡◌, ◌≢◌, ◌≤◌, List, [], ◌∷◌, ◌++◌, length, true, false, Option, Some}
-use Rattle.std.specs.Prelude.{None, map}
+use Rattle.std.specs.Prelude.{None, map, Bool}
 use Rattle.std.specs.List.{flat_map}
 use Rattle.base_text.specs.Bytes.{Bytes, Text}
 use Rattle.base_streams.specs.States.{OutletState}
 use Rattle.base_streams.specs.Told.{Took, TookPrefix}
 use Rattle.dap_launch.specs.declared.file.FileText.{FileText}
-use Rattle.dap_session.specs.States.{SessionState, session_before_requests}
+use Rattle.dap_session.specs.States.{SessionState}
 use Rattle.dap_session.specs.Requests.{wanted_file}
-use Rattle.dap_session.specs.Slices.{Input, request, slice, play_all}
+use Rattle.dap_record.specs.Recordings.{recorded_before_requests}
+use Rattle.dap_record.specs.Slices.{Input, request, slice, play_all}
 use Rattle.dap_debugger.specs.declared.incoming.Incoming.{Incoming}
 use Rattle.dap_debugger.specs.declared.incoming.Incoming.TheVariants as incoming
 use Rattle.dap_debugger.specs.declared.conversation.ConversationEnd.{ConversationEnd}
@@ -20,31 +21,31 @@ use Rattle.dap_debugger.specs.Debuggers.{DebuggerState, Past}
 
 -- ---- exchanges
 
--- a body that was answered, with what was found at the path that its request needs; or no body came, and the
--- run went on
+-- A body that was answered, with what was found at the path that its request needs; or no body came, and the
+-- run went on. Each says whether a search backward came to its end in it.
 pub data Exchange : Type 0 where
-  answered : Bytes → Option FileText → Exchange
-  idle : Exchange
+  answered : Bytes → Option FileText → Bool → Exchange
+  idle : Bool → Exchange
 
 abbrev pub incoming_of : Exchange → Incoming
-incoming_of (answered body found) = incoming.Body body
-incoming_of idle = incoming.Nothing
+incoming_of (answered body found finds) = incoming.Body body
+incoming_of (idle finds) = incoming.Nothing
 
 -- the request, and a slice of the run, which is nothing if no run goes on
 abbrev pub inputs_in : Exchange → List Input
-inputs_in (answered body found) = request (request_of body) found ∷ slice ∷ []
-inputs_in idle = slice ∷ []
+inputs_in (answered body found finds) = request (request_of body) found ∷ slice finds ∷ []
+inputs_in (idle finds) = slice finds ∷ []
 
 abbrev pub inputs_of : List Exchange → List Input
 inputs_of exchanges = flat_map inputs_in exchanges
 
 -- the session after exchanges
 abbrev pub session_after : List Exchange → SessionState
-session_after exchanges = (play_all (inputs_of exchanges) session_before_requests).state
+session_after exchanges = (play_all (inputs_of exchanges) recorded_before_requests).state.session
 
 -- all that is sent in them
 abbrev pub bytes_for : List Exchange → Bytes
-bytes_for exchanges = sent_bytes 0 (play_all (inputs_of exchanges) session_before_requests).messages
+bytes_for exchanges = sent_bytes 0 (play_all (inputs_of exchanges) recorded_before_requests).messages
 
 -- ---- files
 
@@ -54,8 +55,9 @@ IsFound may_find None found = found ≡ None
 IsFound may_find (Some path) found = (file : FileText) × (found ≡ Some file) × may_find path file
 
 abbrev pub FindsIn : (Text → FileText → Type 0) → Exchange → SessionState → Type 0
-FindsIn may_find (answered body found) s = IsFound may_find (wanted_file (request_of body).asked s) found
-FindsIn may_find idle s = Unit {0}
+FindsIn may_find (answered body found finds) s = IsFound may_find (wanted_file (request_of body).asked s)
+    found
+FindsIn may_find (idle finds) s = Unit {0}
 
 -- in each exchange, by the session before it
 abbrev pub FindsFiles : (Text → FileText → Type 0) → List Exchange → Type 0
@@ -114,7 +116,7 @@ pub record Answers (may_find : Text → FileText → Type 0) (body : Bytes) (old
     : Type 0 where
   pub each : (inputs : List Input) (bytes : Bytes) → Past old inputs bytes → (found : Option FileText)
       × IsFound may_find
-      (wanted_file (request_of body).asked (play_all inputs session_before_requests).state) found
+      (wanted_file (request_of body).asked (play_all inputs recorded_before_requests).state.session) found
       × Past new (inputs ++ request (request_of body) found ∷ []) bytes
 
 -- what waited is written

@@ -2,11 +2,11 @@
 ghost use Rattle.std.specs.Prelude.{◌≡◌, ◌++◌, ◌∷◌, [], List, OnOk, IfOk, IfErr};
 ghost use Rattle.base_text.specs.Bytes.{Bytes};
 ghost use Rattle.base_streams.specs.States.{OutletState};
-ghost use Rattle.dap_session.specs.States.{SessionState};
-ghost use Rattle.dap_session.specs.Represents.{RepresentsSession};
 ghost use Rattle.dap_session.specs.Requests.{wanted_file};
-ghost use Rattle.dap_session.specs.Slices.{Input, slice};
-ghost use Rattle.dap_debugger.specs.Debuggers.{Past};
+ghost use Rattle.dap_record.specs.Recordings.{RecordedState};
+ghost use Rattle.dap_record.specs.Represents.{RepresentsRecorded};
+ghost use Rattle.dap_record.specs.Slices.{Input};
+ghost use Rattle.dap_debugger.specs.Debuggers.{Past, PastSlice};
 ghost use Rattle.dap_debugger.specs.Conversations.{Ports, IsFound, Answers, Writes, FailsToWrite};
 ghost use Rattle.dap_debugger.specs.Conversations.{HasConversed, HasAnswered, Converses, ports};
 
@@ -38,8 +38,8 @@ fn find_file<F: ProgramFiles>(
     files: &F,
     request: &EditorRequest,
 ) -> Result<Option<FileText>, AllocError>
-    ensures { (s : SessionState) → RepresentsSession debugger.now.session s → IfOk result
-        (IsFound (F.may_find files.now) (wanted_file request.now.asked s)) }
+    ensures { (v : RecordedState) → RepresentsRecorded debugger.now.session v → IfOk result
+        (IsFound (F.may_find files.now) (wanted_file request.now.asked v.session)) }
 {
     match debugger.session().wanted_file(request) {
         Some(path) => Ok(Some(files.read(alloc, path)?)),
@@ -69,7 +69,7 @@ fn answer_body<F: ProgramFiles>(
 // Makes a slice of the run, if one goes on.
 fn run_on(alloc: Global, debugger: &mut Debugger) -> Result<(), AllocError>
     ensures { (inputs : List Input) (bytes : Bytes) → Past debugger.old inputs bytes
-        → OnOk result (Past debugger.new (inputs ++ slice ∷ []) bytes) }
+        → OnOk result (PastSlice debugger.new inputs bytes) }
 {
     if debugger.session().wants_slice() {
         debugger.run(alloc)

@@ -1,21 +1,21 @@
 //! The debugger.
 ghost use Rattle.std.specs.Prelude.{◌≡◌, ◌∷◌, ◌++◌, [], List, IfOk, OnOk, OnErr};
 ghost use Rattle.base_text.specs.Bytes.{Bytes};
-ghost use Rattle.dap_session.specs.Slices.{Input, request as asks, slice};
+ghost use Rattle.dap_record.specs.Slices.{Input, request as asks};
 
 use crate::sending::put_all;
 use base_text::sequence::{Bytes, Sequence};
 use dap_editor::message::Message;
 use dap_editor::request::EditorRequest;
 use dap_launch::file::FileText;
-use dap_session::session::Session;
+use dap_record::recorded::RecordedSession;
 use std::alloc::{AllocError, Global};
 use std::marker::Model;
 
 /// A session, the number of its messages that were sent, and those that wait to be sent.
 #[derive(Drop)]
 pub struct Debugger {
-    session: Session,
+    session: RecordedSession,
     sent: u64,
     told: Vec<Sequence<Message>>,
 }
@@ -30,13 +30,13 @@ impl Model for Debugger {
 }
 
 impl Debugger {
-    ghost use Rattle.dap_debugger.specs.Debuggers.{Past};
+    ghost use Rattle.dap_debugger.specs.Debuggers.{Past, PastSlice};
 
     /// A debugger before its first request.
     pub fn new(alloc: Global) -> Result<Debugger, AllocError>
         ensures { IfOk result (λ debugger. Past debugger [] []) }
     {
-        let session = Session::new(alloc)?;
+        let session = RecordedSession::new(alloc)?;
         Ok(Debugger {
             session,
             sent: 0,
@@ -45,7 +45,8 @@ impl Debugger {
     }
 
     /// Answers a request. `file` is what was found at the path that the request needs (the session's
-    /// `wanted_file`). If memory runs out nothing changes.
+    /// `wanted_file`). If memory runs out no more messages wait to be sent, but the session can't be used any
+    /// more.
     pub fn answer(
         &mut self,
         alloc: Global,
@@ -54,7 +55,7 @@ impl Debugger {
     ) -> Result<(), AllocError>
         ensures ok { (inputs : List Input) (bytes : Bytes) → Past self.old inputs bytes
             → OnOk result (Past self.new (inputs ++ asks request file ∷ []) bytes) }
-        ensures err { OnErr result (self.new ≡ self.old) }
+        ensures err { OnErr result ((self.new.sent ≡ self.old.sent) × (self.new.told ≡ self.old.told)) }
     {
         self.told.reserve(1)?;
         let messages = self.session.take(alloc, request, file)?;
@@ -62,11 +63,12 @@ impl Debugger {
         Ok(())
     }
 
-    /// Makes a slice of the run, if one goes on.
+    /// Makes a slice of the run, if one goes on. If memory runs out no more messages wait to be sent, but the
+    /// session can't be used any more.
     pub fn run(&mut self, alloc: Global) -> Result<(), AllocError>
         ensures ok { (inputs : List Input) (bytes : Bytes) → Past self.old inputs bytes
-            → OnOk result (Past self.new (inputs ++ slice ∷ []) bytes) }
-        ensures err { OnErr result (self.new ≡ self.old) }
+            → OnOk result (PastSlice self.new inputs bytes) }
+        ensures err { OnErr result ((self.new.sent ≡ self.old.sent) × (self.new.told ≡ self.old.told)) }
     {
         self.told.reserve(1)?;
         let messages = self.session.run(alloc)?;
@@ -88,7 +90,7 @@ impl Debugger {
     }
 
     /// The session that answers the requests.
-    pub fn session(&self) -> &Session
+    pub fn session(&self) -> &RecordedSession
         ensures { result.now ≡ self.now.session }
     {
         &self.session

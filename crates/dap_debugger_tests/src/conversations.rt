@@ -18,7 +18,7 @@ const LETTER: &str = r#"
     "supportsEvaluateForHovers":true,"supportsExceptionInfoRequest":true,
     "supportsFunctionBreakpoints":true,"supportsGotoTargetsRequest":true,
     "supportsLoadedSourcesRequest":true,"supportsReadMemoryRequest":true,
-    "supportsRestartRequest":true,"supportsSetVariable":true,
+    "supportsRestartRequest":true,"supportsSetVariable":true,"supportsStepBack":true,
     "supportsSteppingGranularity":true,"supportsTerminateRequest":true,
     "supportsWriteMemoryRequest":true},"command":"initialize","request_seq":1,"seq":1,"success":true,
     "type":"response"}
@@ -47,7 +47,7 @@ const LOOP: &str = r#"
     "supportsEvaluateForHovers":true,"supportsExceptionInfoRequest":true,
     "supportsFunctionBreakpoints":true,"supportsGotoTargetsRequest":true,
     "supportsLoadedSourcesRequest":true,"supportsReadMemoryRequest":true,
-    "supportsRestartRequest":true,"supportsSetVariable":true,
+    "supportsRestartRequest":true,"supportsSetVariable":true,"supportsStepBack":true,
     "supportsSteppingGranularity":true,"supportsTerminateRequest":true,
     "supportsWriteMemoryRequest":true},"command":"initialize","request_seq":2,"seq":2,"success":true,
     "type":"response"}
@@ -66,9 +66,125 @@ const LOOP: &str = r#"
 !
 "#;
 
-const TALKS: [(&str, ConversationEnd); 3] = [
+/// A run that goes back by a statement, and then to its start; on the way forward no letter is written twice.
+const BACK: &str = r#"
+> {"seq":1,"type":"request","command":"initialize"}
+< {"body":{"exceptionBreakpointFilters":[{"default":true,"filter":"undefined",
+    "label":"Undefined opcodes"},{"default":false,"filter":"halt","label":"HLT"}],
+    "supportsConfigurationDoneRequest":true,"supportsDisassembleRequest":true,
+    "supportsEvaluateForHovers":true,"supportsExceptionInfoRequest":true,
+    "supportsFunctionBreakpoints":true,"supportsGotoTargetsRequest":true,
+    "supportsLoadedSourcesRequest":true,"supportsReadMemoryRequest":true,
+    "supportsRestartRequest":true,"supportsSetVariable":true,"supportsStepBack":true,
+    "supportsSteppingGranularity":true,"supportsTerminateRequest":true,
+    "supportsWriteMemoryRequest":true},"command":"initialize","request_seq":1,"seq":1,"success":true,
+    "type":"response"}
+> {"seq":2,"type":"request","command":"launch","arguments":{"program":"letters.asm","stopOnEntry":true}}
+< {"body":{},"command":"launch","request_seq":2,"seq":2,"success":true,"type":"response"}
+< {"event":"initialized","seq":3,"type":"event"}
+> {"seq":3,"type":"request","command":"configurationDone"}
+< {"body":{},"command":"configurationDone","request_seq":3,"seq":4,"success":true,"type":"response"}
+< {"body":{"allThreadsStopped":true,"reason":"entry","threadId":1},"event":"stopped","seq":5,"type":"event"}
+> {"seq":4,"type":"request","command":"next","arguments":{"threadId":1}}
+< {"body":{},"command":"next","request_seq":4,"seq":6,"success":true,"type":"response"}
+< {"body":{"allThreadsContinued":true,"threadId":1},"event":"continued","seq":7,"type":"event"}
+< {"body":{"allThreadsStopped":true,"reason":"step","threadId":1},"event":"stopped","seq":8,"type":"event"}
+> {"seq":5,"type":"request","command":"next","arguments":{"threadId":1}}
+< {"body":{},"command":"next","request_seq":5,"seq":9,"success":true,"type":"response"}
+< {"body":{"allThreadsContinued":true,"threadId":1},"event":"continued","seq":10,"type":"event"}
+< {"body":{"category":"stdout","output":"A"},"event":"output","seq":11,"type":"event"}
+< {"body":{"allThreadsStopped":true,"reason":"step","threadId":1},"event":"stopped","seq":12,"type":"event"}
+> {"seq":6,"type":"request","command":"next","arguments":{"threadId":1}}
+< {"body":{},"command":"next","request_seq":6,"seq":13,"success":true,"type":"response"}
+< {"body":{"allThreadsContinued":true,"threadId":1},"event":"continued","seq":14,"type":"event"}
+< {"body":{"allThreadsStopped":true,"reason":"step","threadId":1},"event":"stopped","seq":15,"type":"event"}
+> {"seq":7,"type":"request","command":"stepBack","arguments":{"threadId":1}}
+< {"body":{},"command":"stepBack","request_seq":7,"seq":16,"success":true,"type":"response"}
+< {"body":{"allThreadsStopped":true,"reason":"step","threadId":1},"event":"stopped","seq":17,"type":"event"}
+> {"seq":8,"type":"request","command":"evaluate","arguments":{"expression":"PC"}}
+< {"body":{"result":"00104H","variablesReference":0},"command":"evaluate","request_seq":8,"seq":18,
+    "success":true,"type":"response"}
+> {"seq":9,"type":"request","command":"evaluate","arguments":{"expression":"A"}}
+< {"body":{"result":"041H","variablesReference":0},"command":"evaluate","request_seq":9,"seq":19,
+    "success":true,"type":"response"}
+> {"seq":10,"type":"request","command":"reverseContinue","arguments":{"threadId":1}}
+< {"body":{},"command":"reverseContinue","request_seq":10,"seq":20,"success":true,"type":"response"}
+< {"body":{"allThreadsStopped":true,"reason":"entry","threadId":1},"event":"stopped","seq":21,"type":"event"}
+> {"seq":11,"type":"request","command":"evaluate","arguments":{"expression":"PC"}}
+< {"body":{"result":"00100H","variablesReference":0},"command":"evaluate","request_seq":11,"seq":22,
+    "success":true,"type":"response"}
+> {"seq":12,"type":"request","command":"evaluate","arguments":{"expression":"back","context":"repl"}}
+< {"command":"evaluate","message":"the run begins here","request_seq":12,"seq":23,"success":false,
+    "type":"response"}
+> {"seq":13,"type":"request","command":"continue","arguments":{"threadId":1}}
+< {"body":{"allThreadsContinued":true},"command":"continue","request_seq":13,"seq":24,"success":true,
+    "type":"response"}
+< {"body":{"allThreadsContinued":true,"threadId":1},"event":"continued","seq":25,"type":"event"}
+.
+< {"body":{"category":"stdout","output":"B"},"event":"output","seq":26,"type":"event"}
+< {"body":{"exitCode":0},"event":"exited","seq":27,"type":"event"}
+< {"event":"terminated","seq":28,"type":"event"}
+> {"seq":14,"type":"request","command":"disconnect"}
+< {"body":{},"command":"disconnect","request_seq":14,"seq":29,"success":true,"type":"response"}
+"#;
+
+/// A search for a breakpoint that goes on in several slices: a look is answered amid it, a step is refused, a
+/// pause ends it where it began; the next one comes to the start.
+const SEARCH: &str = r#"
+> hello
+< {"command":"","message":"not a request","request_seq":0,"seq":1,"success":false,"type":"response"}
+> {"seq":2,"type":"request","command":"initialize"}
+< {"body":{"exceptionBreakpointFilters":[{"default":true,"filter":"undefined",
+    "label":"Undefined opcodes"},{"default":false,"filter":"halt","label":"HLT"}],
+    "supportsConfigurationDoneRequest":true,"supportsDisassembleRequest":true,
+    "supportsEvaluateForHovers":true,"supportsExceptionInfoRequest":true,
+    "supportsFunctionBreakpoints":true,"supportsGotoTargetsRequest":true,
+    "supportsLoadedSourcesRequest":true,"supportsReadMemoryRequest":true,
+    "supportsRestartRequest":true,"supportsSetVariable":true,"supportsStepBack":true,
+    "supportsSteppingGranularity":true,"supportsTerminateRequest":true,
+    "supportsWriteMemoryRequest":true},"command":"initialize","request_seq":2,"seq":2,"success":true,
+    "type":"response"}
+> {"seq":3,"type":"request","command":"launch","arguments":{"program":"other.asm"}}
+< {"command":"launch","message":"no file","request_seq":3,"seq":3,"success":false,"type":"response"}
+> {"seq":4,"type":"request","command":"launch","arguments":{"program":"loop.asm"}}
+< {"body":{},"command":"launch","request_seq":4,"seq":4,"success":true,"type":"response"}
+< {"event":"initialized","seq":5,"type":"event"}
+> {"seq":5,"type":"request","command":"configurationDone"}
+< {"body":{},"command":"configurationDone","request_seq":5,"seq":6,"success":true,"type":"response"}
+.
+.
+> {"seq":6,"type":"request","command":"pause","arguments":{"threadId":1}}
+< {"body":{},"command":"pause","request_seq":6,"seq":7,"success":true,"type":"response"}
+< {"body":{"allThreadsStopped":true,"reason":"pause","threadId":1},"event":"stopped","seq":8,"type":"event"}
+> {"seq":7,"type":"request","command":"reverseContinue","arguments":{"threadId":1}}
+< {"body":{},"command":"reverseContinue","request_seq":7,"seq":9,"success":true,"type":"response"}
+> {"seq":8,"type":"request","command":"evaluate","arguments":{"expression":"PC","context":"watch"}}
+< {"body":{"result":"00100H","variablesReference":0},"command":"evaluate","request_seq":8,"seq":10,
+    "success":true,"type":"response"}
+> {"seq":9,"type":"request","command":"next","arguments":{"threadId":1}}
+< {"command":"next","message":"the run is going back: pause it first","request_seq":9,"seq":11,
+    "success":false,"type":"response"}
+> {"seq":10,"type":"request","command":"pause","arguments":{"threadId":1}}
+< {"body":{},"command":"pause","request_seq":10,"seq":12,"success":true,"type":"response"}
+< {"body":{"allThreadsStopped":true,"reason":"pause","threadId":1},"event":"stopped","seq":13,"type":"event"}
+> {"seq":11,"type":"request","command":"reverseContinue","arguments":{"threadId":1}}
+< {"body":{},"command":"reverseContinue","request_seq":11,"seq":14,"success":true,"type":"response"}
+.
+.
+.
+< {"body":{"allThreadsStopped":true,"reason":"entry","threadId":1},"event":"stopped","seq":15,"type":"event"}
+> {"seq":12,"type":"request","command":"stepBack","arguments":{"threadId":1}}
+< {"command":"stepBack","message":"the run begins here","request_seq":12,"seq":16,"success":false,
+    "type":"response"}
+> {"seq":13,"type":"request","command":"disconnect"}
+< {"body":{},"command":"disconnect","request_seq":13,"seq":17,"success":true,"type":"response"}
+"#;
+
+const TALKS: [(&str, ConversationEnd); 5] = [
     (LETTER, ConversationEnd::Disconnected),
     (LOOP, ConversationEnd::Stream(StreamEnd::ReadFailed)),
+    (BACK, ConversationEnd::Disconnected),
+    (SEARCH, ConversationEnd::Disconnected),
     ("", ConversationEnd::Stream(StreamEnd::Ended)),
 ];
 

@@ -20,6 +20,17 @@ MAIN:  MVI A,41H
        END MAIN
 ";
 
+/// Writes `A` in the step from 0102H to 0104H, and `B` in that from 0105H to 0107H, and halts.
+const LETTERS: &str = "\
+       ORG 100H
+MAIN:  MVI A,41H
+       OUT 1
+       INR A
+       OUT 1
+       HLT
+       END MAIN
+";
+
 /// Loops for good.
 const LOOP: &str = "\
        ORG 100H
@@ -37,6 +48,7 @@ impl ProgramFiles for Programs {
     fn read(&self, alloc: Global, path: &str) -> Result<FileText, AllocError> {
         match path {
             "letter.asm" => Ok(FileText::Text(Text::copy_of(alloc, LETTER)?)),
+            "letters.asm" => Ok(FileText::Text(Text::copy_of(alloc, LETTERS)?)),
             "loop.asm" => Ok(FileText::Text(Text::copy_of(alloc, LOOP)?)),
             _ => Ok(FileText::Missing),
         }

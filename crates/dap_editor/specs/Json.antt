@@ -124,6 +124,7 @@ capabilities_json = object_of (
     can (codes "supportsReadMemoryRequest") ∷
     can (codes "supportsRestartRequest") ∷
     can (codes "supportsSetVariable") ∷
+    can (codes "supportsStepBack") ∷
     can (codes "supportsSteppingGranularity") ∷
     can (codes "supportsTerminateRequest") ∷
     can (codes "supportsWriteMemoryRequest") ∷ [])

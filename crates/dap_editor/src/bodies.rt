@@ -57,6 +57,7 @@ fn capabilities(alloc: Global) -> Result<Value, AllocError>
         .flag("supportsReadMemoryRequest", true)
         .flag("supportsRestartRequest", true)
         .flag("supportsSetVariable", true)
+        .flag("supportsStepBack", true)
         .flag("supportsSteppingGranularity", true)
         .flag("supportsTerminateRequest", true)
         .flag("supportsWriteMemoryRequest", true)

@@ -111,7 +111,7 @@ const BODIES: [(Shape, &str); 15] = [
             r#""supportsEvaluateForHovers":true,"supportsExceptionInfoRequest":true,"#,
             r#""supportsFunctionBreakpoints":true,"supportsGotoTargetsRequest":true,"#,
             r#""supportsLoadedSourcesRequest":true,"supportsReadMemoryRequest":true,"#,
-            r#""supportsRestartRequest":true,"supportsSetVariable":true,"#,
+            r#""supportsRestartRequest":true,"supportsSetVariable":true,"supportsStepBack":true,"#,
             r#""supportsSteppingGranularity":true,"supportsTerminateRequest":true,"#,
             r#""supportsWriteMemoryRequest":true}"#,
         ),

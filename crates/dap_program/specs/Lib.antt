@@ -3,6 +3,7 @@ pub mod Messages
 pub mod Refusals
 pub mod Loading
 pub mod Ends
+pub mod SliceEnds
 pub mod Slices
 pub mod Bounds
 pub mod Kits

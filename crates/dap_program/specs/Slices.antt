@@ -11,7 +11,7 @@ use Rattle.lab_core.specs.declared.answer.End.TheVariants as end
 use Rattle.lab_core.specs.Board.{Board}
 use Rattle.lab_core.specs.Slices.{traffic_of}
 use Rattle.lab_core.specs.Labs.{LabState, RepresentsBoard}
-use Rattle.lab_core.specs.SliceEnds.{slice_end, after_slice}
+use Rattle.dap_program.specs.SliceEnds.{slice_end_within, after_slice_within}
 use Rattle.i80_devs.specs.Console.{written_to_console, wants_line}
 use Rattle.dap_board.specs.Names.{reason_of}
 use Rattle.dap_editor.specs.declared.message.EditorEvent.{EditorEvent}
@@ -77,8 +77,11 @@ slice_events held traffic ending =
 
 -- ---- the slice
 
--- what a slice is on a board
-pub record IsSliceOf (held : ExceptionFilters) (b : Board) (s : Slice) (lab : LabState) : Type 0 where
-  pub messages : s.messages ≡ as_messages (slice_events held (traffic_of (slice_end b).0 b) (slice_end b).1)
-  pub outcome : s.outcome ≡ (slice_end b).1
-  pub represents : RepresentsBoard lab (held_at_end held (slice_end b).1 (after_slice b))
+-- what a slice of at most n steps is on a board, by the ends at which the run is held
+pub record IsSliceOf (n : ℕ) (held : ExceptionFilters) (b : Board) (s : Slice) (lab : LabState)
+    : Type 0 where
+  pub executed : s.executed ≡ (slice_end_within n b).0
+  pub messages : s.messages ≡ as_messages
+      (slice_events held (traffic_of (slice_end_within n b).0 b) (slice_end_within n b).1)
+  pub outcome : s.outcome ≡ (slice_end_within n b).1
+  pub represents : RepresentsBoard lab (held_at_end held (slice_end_within n b).1 (after_slice_within n b))

@@ -15,5 +15,6 @@ pub mod memory;
 pub mod messages;
 pub mod opening;
 pub mod refusals;
+mod run_slice;
 pub mod slice;
 pub mod target;

@@ -15,6 +15,7 @@ ghost use Rattle.dap_program.specs.Kits.{IsSliceKit};
 
 use crate::end::{EndPolicy, exit_code, hold_at_end, policy_at, stop_at};
 use crate::messages::Messages;
+use crate::run_slice::{SliceResult, slice_within};
 use base_text::sequence::{Bytes, Sequence};
 use dap_board::names::reason_of;
 use dap_editor::message::{EditorEvent, EditorStop, Message, OutputCategory};
@@ -23,13 +24,14 @@ use i80_devs::console::{is_line_requested, print_all};
 use i80_exec::ports::PortOperation;
 use lab_core::answer::{End, SliceOutcome};
 use lab_core::lab::Lab;
-use lab_core::run_slice::{STEPS, run_slice};
+use lab_core::run_slice::STEPS;
 use std::alloc::{AllocError, Global};
 
-/// The messages about a slice, and how it ended.
+/// The messages about a slice, how many steps it made, and how it ended.
 #[derive(Drop)]
 pub struct Slice {
     pub messages: Sequence<Message>,
+    pub executed: u16,
     pub outcome: SliceOutcome,
 }
 
@@ -242,21 +244,36 @@ impl SliceKit {
 
 // ---- the slice
 
-/// Makes at most 4,096 steps of the run on a board, and returns the messages about them. `held` says at which
-/// ends the run is held. If no run goes on, it fails like out of memory. If it fails, the board stays as it
-/// was.
-pub fn make_slice(alloc: Global, lab: &mut Lab, held: ExceptionFilters) -> Result<Slice, AllocError>
-    requires { RepresentsSomeBoard lab.old }
+/// Makes at most `limit` steps of the run on a board, from 1 to 4,096, and returns the messages about them.
+/// `held` says at which ends the run is held. If no run goes on, it fails like out of memory. If it fails,
+/// the board stays as it was.
+pub fn make_slice(
+    alloc: Global,
+    lab: &mut Lab,
+    limit: u16,
+    held: ExceptionFilters,
+) -> Result<Slice, AllocError>
+    requires { (1 ≤ limit) × (limit ≤ 4096) × RepresentsSomeBoard lab.old }
     ensures made { (b : Board) → RepresentsBoard lab.old b → b.run ≡ Running
-        → IfOk result (λ slice. IsSliceOf held b slice lab.new) }
+        → IfOk result (λ slice. IsSliceOf limit held b slice lab.new) }
     ensures err { OnErr result (lab.new ≡ lab.old) }
 {
     let kit = slice_kit(alloc)?;
-    match run_slice(lab) {
-        Ok((traffic, outcome)) => {
+    match slice_within(lab, limit) {
+        Ok(
+            SliceResult {
+                executed,
+                traffic,
+                outcome,
+            },
+        ) => {
             let messages = kit.tell(held, traffic.as_slice(), outcome);
             hold_at_end(lab, held, outcome);
-            Ok(Slice { messages, outcome })
+            Ok(Slice {
+                messages,
+                executed,
+                outcome,
+            })
         }
         Err(_) => {
             drop(kit);

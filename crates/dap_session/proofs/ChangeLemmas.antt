@@ -62,7 +62,8 @@ use Rattle.dap_launch.specs.Lives.{in_phase, is_live, end_of, exception_of}
 use Rattle.dap_session.specs.States.{SessionState}
 use Rattle.dap_session.specs.Turns.{Replied, change_follow}
 use Rattle.dap_session.specs.Breakpoints.{program_at, armed_where, labels_armed}
-use Rattle.dap_session.specs.Evaluations.{behind, byte_spelled, byte_command, command_with, command_reply}
+use Rattle.dap_session.specs.Evaluations.{command_reply}
+use Rattle.dap_inputs.specs.Prompt.{behind, byte_spelled, byte_command, command_with}
 use Rattle.dap_session.specs.Evaluations.{value_told, prompting, evaluating}
 use Rattle.dap_session.specs.Launches.{beginning_in, beginning_where}
 use Rattle.dap_session.specs.Memory.{is_stopped, writing_from, writing}
@@ -74,10 +75,10 @@ use Rattle.dap_session.specs.Laws.{SameParts, is_invalidated, IsTold, IsWatched,
 
 -- ---- what leaves the machine, the devices and the trace
 
-same : (b : Board) → SameParts b b
+pub same : (b : Board) → SameParts b b
 same b = record { machine = refl; past = refl; trace = refl }
 
-abbrev KeepsParts : Board → EventResult → Type 0
+abbrev pub KeepsParts : Board → EventResult → Type 0
 KeepsParts b (Ok (a, b')) = SameParts b b'
 KeepsParts b (Err f) = Unit {0}
 
@@ -99,10 +100,10 @@ kept_answer : (r : Result Shown ViewFault) (b : Board) → KeepsParts b (as_answ
 kept_answer (Ok s) b = same b
 kept_answer (Err f) b = tt
 
-kept_show : (v : View) (b : Board) → KeepsParts b (result_of (event.Show v) b)
+pub kept_show : (v : View) (b : Board) → KeepsParts b (result_of (event.Show v) b)
 kept_show v b = kept_answer (view_of v (parts_of b)) b
 
-kept_dump : (path text : Text) (b : Board) → KeepsParts b (result_of (event.Dump path text) b)
+pub kept_dump : (path text : Text) (b : Board) → KeepsParts b (result_of (event.Dump path text) b)
 kept_dump path text b =
     kept_step (or_source (place_of (record { path = path; text = text }) b.sources)) b _
     (λ place. record { machine = refl; past = refl; trace = refl })
@@ -113,24 +114,24 @@ kept_armed path lines names b =
     kept_after b _ (kept_source (source_at b.sources path) b _
     (λ n text. record { machine = refl; past = refl; trace = refl }))
 
-kept_where : (o : Option Program) (lines : List ℕ) (names : List Text) (b : Board)
+pub kept_where : (o : Option Program) (lines : List ℕ) (names : List Text) (b : Board)
     → SameParts b (armed_where o lines names b)
 kept_where None lines names b = same b
 kept_where (Some p) lines names b = kept_armed p.launch.program lines names b
 
-kept_labels : (o : Option Program) (names : List Text) (points : WantedBreakpointsState) (b : Board)
+pub kept_labels : (o : Option Program) (names : List Text) (points : WantedBreakpointsState) (b : Board)
     → SameParts b (labels_armed o names points b)
 kept_labels None names points b = same b
 kept_labels (Some p) names points b = kept_armed p.launch.program _ names b
 
-kept_pause : (a : Bool) (r : RunState) (b : Board)
+pub kept_pause : (a : Bool) (r : RunState) (b : Board)
     → KeepsParts b (while_attached a (while_running r (Ok (answer.Accepted, board_stopped b))))
 kept_pause false r b = tt
 kept_pause true NoRun b = tt
 kept_pause true Running b = record { machine = refl; past = refl; trace = refl }
 kept_pause true Stopped b = tt
 
-kept_resume : (r : RunState) (step : Option StepRequest) (b : Board)
+pub kept_resume : (r : RunState) (step : Option StepRequest) (b : Board)
     → KeepsParts b (while_stopped r (Ok (answer.Accepted, going_on step b)))
 kept_resume NoRun step b = tt
 kept_resume Running step b = tt

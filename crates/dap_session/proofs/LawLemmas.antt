@@ -61,15 +61,16 @@ use Rattle.dap_session.specs.Laws.{console_of, written_in, written_by, all_writt
 
 -- ---- responses
 
-callers_answered-told : (es : List EditorEvent) → callers_answered (as_messages es) ≡ []
+pub callers_answered-told : (es : List EditorEvent) → callers_answered (as_messages es) ≡ []
 callers_answered-told [] = refl
 callers_answered-told (e ∷ es) = callers_answered-told es
 
-answered_slicing : (p : ℕ × SliceOutcome) (s : SessionState) → callers_answered (slicing p s).messages ≡ []
+pub answered_slicing : (p : ℕ × SliceOutcome) (s : SessionState) → callers_answered (slicing p
+    s).messages ≡ []
 answered_slicing (k, ending) s = callers_answered-told
     (slice_events (held_ends s.settings.filters s.settings.program) (traffic_of k s.board) ending)
 
-answered_sliced : (s : SessionState) → callers_answered (slice_told s).messages ≡ []
+pub answered_sliced : (s : SessionState) → callers_answered (slice_told s).messages ≡ []
 unfolding slice_told
 answered_sliced s = elim (cases_Bool (wants_slice s)) [
   | inl so ↦ rw so (answered_slicing (slice_end s.board) s)
@@ -94,19 +95,19 @@ answered_played (input ∷ inputs) s =
 
 -- ---- the console
 
-abbrev shown : List EditorEvent → Bytes
+abbrev pub shown : List EditorEvent → Bytes
 shown es = console_of (as_messages es)
 
-shown-append : (first second : List EditorEvent) → shown (first ++ second) ≡ shown first ++ shown second
+pub shown-append : (first second : List EditorEvent) → shown (first ++ second) ≡ shown first ++ shown second
 shown-append first second =
     ap console_of (told-append first second)
     ∙ flat_map-append stdout_in (as_messages first) (as_messages second)
 
 -- nothing of it is the console's
-abbrev IsSilent : List EditorEvent → Type 0
+abbrev pub IsSilent : List EditorEvent → Type 0
 IsSilent es = shown es ≡ []
 
-silent-append : (first second : List EditorEvent) → IsSilent first → IsSilent second
+pub silent-append : (first second : List EditorEvent) → IsSilent first → IsSilent second
     → IsSilent (first ++ second)
 silent-append first second one two =
     shown-append first second ∙ (ap (λ xs. xs ++ shown second) one ∙ two)
@@ -191,12 +192,12 @@ silent_unless : (o : Option Text) (a : RequestContent) (found : Option FileText)
 silent_unless (Some text) a found s = refl
 silent_unless None a found s = silent_asking a found s
 
-silent_turn : (a : RequestContent) (found : Option FileText) (s : SessionState)
+pub silent_turn : (a : RequestContent) (found : Option FileText) (s : SessionState)
     → IsSilent (turn a found s).events
 unfolding turn
 silent_turn a found s = silent_unless (objection a s) a found s
 
-append-nil : (xs : Bytes) → xs ++ [] ≡ xs
+pub append-nil : (xs : Bytes) → xs ++ [] ≡ xs
 append-nil [] = refl
 append-nil (x ∷ xs) = ap (λ rest. x ∷ rest) (append-nil xs)
 
@@ -229,7 +230,7 @@ shown_events bytes asks p o =
     shown-append (console_events bytes) rest
     ∙ (ap (λ xs. xs ++ shown rest) (shown_console bytes) ∙ (ap (λ xs. bytes ++ xs) silent ∙ append-nil bytes))
 
-shown_slicing : (p : ℕ × SliceOutcome) (s : SessionState)
+pub shown_slicing : (p : ℕ × SliceOutcome) (s : SessionState)
     → console_of (slicing p s).messages ≡ written_in p s.board
 shown_slicing (k, ending) s =
     shown_events (filter_map written_to_console (traffic_of k s.board)) _

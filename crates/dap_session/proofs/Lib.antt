@@ -1,4 +1,3 @@
-pub mod PromptLemmas
 pub mod LawLemmas
 pub mod SessionLemmas
 pub mod BoardLemmas
@@ -10,3 +9,5 @@ pub mod StandsLemmas
 pub mod EndLemmas
 pub mod RefusalLemmas
 pub mod ChangeLemmas
+pub mod InputLemmas
+pub mod SearchLemmas

@@ -35,7 +35,8 @@ use Rattle.dap_launch.specs.Lives.{end_of, exception_of}
 use Rattle.dap_session.specs.States.{SessionState}
 use Rattle.dap_session.specs.Turns.{Replied, Turn}
 use Rattle.dap_session.specs.Breakpoints.{setting_lines}
-use Rattle.dap_session.specs.Evaluations.{behind, byte_spelled, byte_command, command_with, command_reply}
+use Rattle.dap_session.specs.Evaluations.{command_reply}
+use Rattle.dap_inputs.specs.Prompt.{behind, byte_spelled, byte_command, command_with}
 use Rattle.dap_session.specs.Evaluations.{value_told, prompting, evaluating}
 use Rattle.dap_session.specs.Launches.{beginning_in, beginning_where, loading_as, by_text, loading}
 use Rattle.dap_session.specs.Launches.{launching_over, restarting_of}

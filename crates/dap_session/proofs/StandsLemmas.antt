@@ -7,7 +7,7 @@ use Rattle.lab_core.specs.declared.run_state.RunState.{RunState}
 use Rattle.lab_core.specs.declared.run_state.RunState.TheVariants.{NoRun, Running, Stopped}
 use Rattle.lab_core.specs.Board.{Board}
 use Rattle.lab_core.specs.Labs.{LabState, RepresentsBoard, MatchesResult}
-use Rattle.lab_core.specs.SliceEnds.{slice_end, after_slice}
+use Rattle.dap_program.specs.SliceEnds.{slice_end_within, after_slice_within}
 use Rattle.dap_answers.specs.declared.answer.Body.{Body}
 use Rattle.dap_board.specs.Commands.{Performed, Performs}
 use Rattle.dap_program.specs.Boards.{RepresentsSomeBoard}
@@ -42,18 +42,20 @@ running_is Running w is = refl
 running_is Stopped w is = absurd (true≢false (sym is))
 
 -- a slice of a run that goes on
-pub stands_sliced : (held : ExceptionFilters) (old : SessionFields) (lab new : LabState) (wants : Bool)
+pub stands_sliced : (n : ℕ) (held : ExceptionFilters) (old : SessionFields) (lab new : LabState)
     (slice : Slice)
-    → lab ≡ old.lab → ((s : SessionState) → RepresentsSession old s → wants ≡ wants_slice s) → wants ≡ true
-    → ((b : Board) → RepresentsBoard lab b → b.run ≡ Running → IsSliceOf held b slice new)
+    → lab ≡ old.lab → ((s : SessionState) → RepresentsSession old s → wants_slice s ≡ true)
+    → ((b : Board) → RepresentsBoard lab b → b.run ≡ Running → IsSliceOf n held b slice new)
     → RepresentsSomeBoard lab → RepresentsSomeBoard new
-stands_sliced held old lab new wants slice same is so made (b, represents) =
+stands_sliced n held old lab new slice same wants made (b, represents) =
     let s : SessionState = record { board = b; settings = old.settings } in
     let viewed : RepresentsSession old s =
     record { board = subst (λ l. RepresentsBoard l b) same represents; settings = refl } in
-    let running : b.run ≡ Running =
-    running_is b.run (not old.settings.waits) (sym (is s viewed) ∙ so) in
-    (held_at_end held (slice_end b).1 (after_slice b), (made b represents running).represents)
+    let running : b.run ≡ Running = running_is b.run (not old.settings.waits) (wants s viewed) in (
+      held_at_end held (slice_end_within n b).1 (after_slice_within n b),
+      (made b represents
+          running).represents,
+    )
 
 abbrev pub Interrupts : SessionFields → SessionFields → Type 0
 Interrupts mid new = (t : SessionState) → RepresentsSession mid t

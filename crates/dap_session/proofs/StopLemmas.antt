@@ -165,7 +165,7 @@ follows_unless : (o : Option Text) (a : RequestContent) (found : Option FileText
 follows_unless (Some text) a found s reached = (still s s reached refl).follows
 follows_unless None a found s reached = follows_asking a found s reached
 
-follows_turn : (a : RequestContent) (found : Option FileText) (s : SessionState) → IsReached (seen s)
+pub follows_turn : (a : RequestContent) (found : Option FileText) (s : SessionState) → IsReached (seen s)
     → FollowsTurn s (turn a found s)
 unfolding turn
 follows_turn a found s reached = follows_unless (objection a s) a found s reached
@@ -184,7 +184,7 @@ quiet_unless : (o : Option Text) (a : RequestContent) (found : Option FileText) 
 quiet_unless (Some text) a found s reached dead is = refl
 quiet_unless None a found s reached dead is = quiet_asking a found s reached dead is
 
-quiet_turn : (a : RequestContent) (found : Option FileText) (s : SessionState) → IsReached (seen s)
+pub quiet_turn : (a : RequestContent) (found : Option FileText) (s : SessionState) → IsReached (seen s)
     → is_live s.settings.program ≡ false → asks_to_load a ≡ false → (turn a found s).events ≡ []
 unfolding turn
 quiet_turn a found s reached dead is = quiet_unless (objection a s) a found s reached dead is
@@ -311,7 +311,8 @@ follows_outcome (outcome.Stop r) b s kept reached has =
 follows_outcome (outcome.End e) b s kept reached has =
     follows_end s.settings.filters s.settings.program e b s refl kept reached has
 
-follows_slicing : (p : ℕ × SliceOutcome) (s : SessionState) → IsReached (seen s) → has_run s.board.run ≡ true
+pub follows_slicing : (p : ℕ × SliceOutcome) (s : SessionState) → IsReached (seen s) → has_run
+    s.board.run ≡ true
     → Follows (seen s) (slicing p s).messages (seen (slicing p s).state)
 follows_slicing (k, ending) s reached has =
     let written = filter_map written_to_console (traffic_of k s.board) in
@@ -322,12 +323,12 @@ follows_slicing (k, ending) s reached has =
     (calm_follows (line_events asks) last _ _ (calm_line asks)
     (follows_outcome ending (after_steps k s.board) s (kept_steps k s.board) reached has))
 
-running_has : (r : RunState) → is_running r ≡ true → has_run r ≡ true
+pub running_has : (r : RunState) → is_running r ≡ true → has_run r ≡ true
 running_has NoRun is = absurd (true≢false (sym is))
 running_has Running is = refl
 running_has Stopped is = absurd (true≢false (sym is))
 
-follows_sliced : (s : SessionState) → IsReached (seen s)
+pub follows_sliced : (s : SessionState) → IsReached (seen s)
     → Follows (seen s) (slice_told s).messages (seen (slice_told s).state)
 unfolding slice_told
 follows_sliced s reached = elim (cases_Bool (wants_slice s)) [
@@ -337,7 +338,7 @@ follows_sliced s reached = elim (cases_Bool (wants_slice s)) [
   | inr other ↦ rw other (still s s reached refl).follows
 ]
 
-quiet_sliced : (s : SessionState) → IsReached (seen s) → is_live s.settings.program ≡ false
+pub quiet_sliced : (s : SessionState) → IsReached (seen s) → is_live s.settings.program ≡ false
     → events_in (slice_told s).messages ≡ []
 unfolding slice_told
 quiet_sliced s reached dead =

@@ -8,4 +8,5 @@ pub mod Launches
 pub mod Requests
 pub mod Slices
 pub mod Represents
+pub mod Rewinds
 pub mod Laws

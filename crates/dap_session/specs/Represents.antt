@@ -1,5 +1,5 @@
 -- Which states a session represents.
-use Rattle.std.specs.Prelude.{◌≡◌, Result, List, OnErr, IfOk}
+use Rattle.std.specs.Prelude.{◌≡◌, ℕ, Result, List, OnErr, IfOk, true}
 use Rattle.std.specs.declared.alloc.AllocError.{AllocError}
 use Rattle.lab_core.specs.Labs.{LabState, RepresentsBoard}
 use Rattle.base_text.specs.Bytes.{Text}
@@ -7,11 +7,13 @@ use Rattle.dap_editor.specs.declared.message.Message.{Message}
 use Rattle.dap_editor.specs.declared.message.PlacedBreakpoint.{PlacedBreakpoint}
 use Rattle.dap_session.specs.declared.settings.SessionSettings.{SessionSettings}
 use Rattle.dap_launch.specs.declared.reply.Reply.{Reply}
-use Rattle.dap_session.specs.States.{SessionState, with_board}
+use Rattle.dap_session.specs.States.{SessionState, with_board, wants_slice}
 use Rattle.dap_session.specs.Turns.{Replied}
 use Rattle.dap_program.specs.Breakpoints.{labels_behind}
 use Rattle.dap_session.specs.Breakpoints.{program_lines, labels_armed}
-use Rattle.dap_session.specs.Slices.{Told}
+use Rattle.dap_session.specs.Slices.{Told, slicing}
+use Rattle.dap_session.specs.declared.session.RunSlice.{RunSlice}
+use Rattle.dap_program.specs.SliceEnds.{slice_end_within}
 
 -- what a contract sees of a session
 pub record SessionFields : Type 0 where
@@ -21,6 +23,10 @@ pub record SessionFields : Type 0 where
 pub record RepresentsSession (v : SessionFields) (s : SessionState) : Type 0 where
   pub board : RepresentsBoard v.lab s.board
   pub settings : v.settings ≡ s.settings
+
+-- it represents some state
+abbrev pub RepresentsSome : SessionFields → Type 0
+RepresentsSome v = (s : SessionState) × RepresentsSession v s
 
 -- the reply is this one, and the session represents the state after it
 pub record Replies (r : Replied) (reply : Reply) (new : SessionFields) : Type 0 where
@@ -55,3 +61,12 @@ pub record LabelsPlaced (names : List Text) (s : SessionState) (points : List Pl
   pub placed : points ≡ labels_behind (program_lines s.settings.program s.settings.points) names s.board
   pub represents : RepresentsSession new (with_board (labels_armed s.settings.program names s.settings.points
       s.board) s)
+
+-- a run goes on
+abbrev pub WantsSlice : SessionFields → Type 0
+WantsSlice v = (s : SessionState) → RepresentsSession v s → wants_slice s ≡ true
+
+-- a slice of at most n steps was made
+pub record SlicesWithin (n : ℕ) (s : SessionState) (slice : RunSlice) (new : SessionFields) : Type 0 where
+  pub executed : slice.executed ≡ (slice_end_within n s.board).0
+  pub told : Tells (slicing (slice_end_within n s.board) s) slice.messages new

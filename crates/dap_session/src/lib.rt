@@ -5,7 +5,5 @@
 // the end of a block drops it, each part is one more case of the function's proof.
 #![tactic(auto)]
 
-pub mod laws;
-mod prompt;
 pub mod session;
 pub mod settings;

@@ -11,6 +11,7 @@ ghost use Rattle.dap_session.specs.Represents.{RepresentsSession, RepliesAs, Tel
 
 mod breakpoints;
 mod evaluations;
+mod history;
 mod launches;
 mod memory;
 mod requests;
@@ -35,6 +36,13 @@ use std::marker::Model;
 pub struct Session {
     lab: Lab,
     settings: SessionSettings,
+}
+
+/// What the editor is told of a slice, and how many steps it made.
+#[derive(Drop)]
+pub struct RunSlice {
+    pub messages: Sequence<Message>,
+    pub executed: u16,
 }
 
 // One function for all places where a session is dropped, here and in the crates above.

@@ -14,7 +14,7 @@ initialize
     "supportsEvaluateForHovers":true,"supportsExceptionInfoRequest":true,
     "supportsFunctionBreakpoints":true,"supportsGotoTargetsRequest":true,
     "supportsLoadedSourcesRequest":true,"supportsReadMemoryRequest":true,
-    "supportsRestartRequest":true,"supportsSetVariable":true,
+    "supportsRestartRequest":true,"supportsSetVariable":true,"supportsStepBack":true,
     "supportsSteppingGranularity":true,"supportsTerminateRequest":true,"supportsWriteMemoryRequest":true}
 initialize
   2 "initialize" false "initialized already"
@@ -56,7 +56,7 @@ initialize
     "supportsEvaluateForHovers":true,"supportsExceptionInfoRequest":true,
     "supportsFunctionBreakpoints":true,"supportsGotoTargetsRequest":true,
     "supportsLoadedSourcesRequest":true,"supportsReadMemoryRequest":true,
-    "supportsRestartRequest":true,"supportsSetVariable":true,
+    "supportsRestartRequest":true,"supportsSetVariable":true,"supportsStepBack":true,
     "supportsSteppingGranularity":true,"supportsTerminateRequest":true,"supportsWriteMemoryRequest":true}
 configurationDone
   1 "configurationDone" true {}
@@ -113,7 +113,7 @@ initialize
     "supportsEvaluateForHovers":true,"supportsExceptionInfoRequest":true,
     "supportsFunctionBreakpoints":true,"supportsGotoTargetsRequest":true,
     "supportsLoadedSourcesRequest":true,"supportsReadMemoryRequest":true,
-    "supportsRestartRequest":true,"supportsSetVariable":true,
+    "supportsRestartRequest":true,"supportsSetVariable":true,"supportsStepBack":true,
     "supportsSteppingGranularity":true,"supportsTerminateRequest":true,"supportsWriteMemoryRequest":true}
 launch {"program":"count.asm"} < slip
   1 "launch" false "2:12 Undefined"
@@ -166,7 +166,7 @@ initialize
     "supportsEvaluateForHovers":true,"supportsExceptionInfoRequest":true,
     "supportsFunctionBreakpoints":true,"supportsGotoTargetsRequest":true,
     "supportsLoadedSourcesRequest":true,"supportsReadMemoryRequest":true,
-    "supportsRestartRequest":true,"supportsSetVariable":true,
+    "supportsRestartRequest":true,"supportsSetVariable":true,"supportsStepBack":true,
     "supportsSteppingGranularity":true,"supportsTerminateRequest":true,"supportsWriteMemoryRequest":true}
 launch {"program":"count.asm","stopAtEnd":1} < undefined
   1 "launch" false "bad arguments"
@@ -236,7 +236,7 @@ initialize
     "supportsEvaluateForHovers":true,"supportsExceptionInfoRequest":true,
     "supportsFunctionBreakpoints":true,"supportsGotoTargetsRequest":true,
     "supportsLoadedSourcesRequest":true,"supportsReadMemoryRequest":true,
-    "supportsRestartRequest":true,"supportsSetVariable":true,
+    "supportsRestartRequest":true,"supportsSetVariable":true,"supportsStepBack":true,
     "supportsSteppingGranularity":true,"supportsTerminateRequest":true,"supportsWriteMemoryRequest":true}
 launch {"program":"count.asm","stopAtEnd":true,"noDebug":true} < undefined
   1 "launch" true {}
@@ -261,7 +261,7 @@ initialize {"supportsInvalidatedEvent":true,"supportsMemoryEvent":true}
     "supportsEvaluateForHovers":true,"supportsExceptionInfoRequest":true,
     "supportsFunctionBreakpoints":true,"supportsGotoTargetsRequest":true,
     "supportsLoadedSourcesRequest":true,"supportsReadMemoryRequest":true,
-    "supportsRestartRequest":true,"supportsSetVariable":true,
+    "supportsRestartRequest":true,"supportsSetVariable":true,"supportsStepBack":true,
     "supportsSteppingGranularity":true,"supportsTerminateRequest":true,"supportsWriteMemoryRequest":true}
 evaluate {"expression":"switches 4","context":"repl"}
   1 "evaluate" true {"result":"ok","variablesReference":0}
@@ -321,7 +321,7 @@ initialize {"supportsInvalidatedEvent":false,"supportsMemoryEvent":true}
     "supportsEvaluateForHovers":true,"supportsExceptionInfoRequest":true,
     "supportsFunctionBreakpoints":true,"supportsGotoTargetsRequest":true,
     "supportsLoadedSourcesRequest":true,"supportsReadMemoryRequest":true,
-    "supportsRestartRequest":true,"supportsSetVariable":true,
+    "supportsRestartRequest":true,"supportsSetVariable":true,"supportsStepBack":true,
     "supportsSteppingGranularity":true,"supportsTerminateRequest":true,"supportsWriteMemoryRequest":true}
 initialize {"supportsInvalidatedEvent":true}
   3 "initialize" false "initialized already"

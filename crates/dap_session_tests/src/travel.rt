@@ -11,7 +11,7 @@ initialize
     "supportsEvaluateForHovers":true,"supportsExceptionInfoRequest":true,
     "supportsFunctionBreakpoints":true,"supportsGotoTargetsRequest":true,
     "supportsLoadedSourcesRequest":true,"supportsReadMemoryRequest":true,
-    "supportsRestartRequest":true,"supportsSetVariable":true,
+    "supportsRestartRequest":true,"supportsSetVariable":true,"supportsStepBack":true,
     "supportsSteppingGranularity":true,"supportsTerminateRequest":true,"supportsWriteMemoryRequest":true}
 launch {"program":"count.asm"} < undefined
   1 "launch" true {}
@@ -64,7 +64,7 @@ initialize
     "supportsEvaluateForHovers":true,"supportsExceptionInfoRequest":true,
     "supportsFunctionBreakpoints":true,"supportsGotoTargetsRequest":true,
     "supportsLoadedSourcesRequest":true,"supportsReadMemoryRequest":true,
-    "supportsRestartRequest":true,"supportsSetVariable":true,
+    "supportsRestartRequest":true,"supportsSetVariable":true,"supportsStepBack":true,
     "supportsSteppingGranularity":true,"supportsTerminateRequest":true,"supportsWriteMemoryRequest":true}
 setExceptionBreakpoints {"filters":["halt","undefined"]}
   1 "setExceptionBreakpoints" true {}
@@ -90,7 +90,7 @@ initialize
     "supportsEvaluateForHovers":true,"supportsExceptionInfoRequest":true,
     "supportsFunctionBreakpoints":true,"supportsGotoTargetsRequest":true,
     "supportsLoadedSourcesRequest":true,"supportsReadMemoryRequest":true,
-    "supportsRestartRequest":true,"supportsSetVariable":true,
+    "supportsRestartRequest":true,"supportsSetVariable":true,"supportsStepBack":true,
     "supportsSteppingGranularity":true,"supportsTerminateRequest":true,"supportsWriteMemoryRequest":true}
 launch {"program":"count.asm","stopOnEntry":true} < letters
   1 "launch" true {}
@@ -144,7 +144,7 @@ initialize
     "supportsEvaluateForHovers":true,"supportsExceptionInfoRequest":true,
     "supportsFunctionBreakpoints":true,"supportsGotoTargetsRequest":true,
     "supportsLoadedSourcesRequest":true,"supportsReadMemoryRequest":true,
-    "supportsRestartRequest":true,"supportsSetVariable":true,
+    "supportsRestartRequest":true,"supportsSetVariable":true,"supportsStepBack":true,
     "supportsSteppingGranularity":true,"supportsTerminateRequest":true,"supportsWriteMemoryRequest":true}
 configurationDone
   1 "configurationDone" true {}

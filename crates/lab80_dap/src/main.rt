@@ -1,6 +1,6 @@
 // The debugger for editors (Debug Adapter Protocol): `lab80_dap` serves over standard input and output,
 // `lab80_dap --port N` over the first connection to this port of 127.0.0.1.
-// What it answers is in crates with contracts of their own: dap_session, dap_debugger, dap_serve.
+// What it answers is in crates with contracts of their own: dap_session, dap_record, dap_debugger, dap_serve.
 // This program calls them with the system's streams and sockets.
 // Standard output carries nothing but the protocol, or with a port the line `listening`.
 #![tactic(auto)]

@@ -1,18 +1,19 @@
 //! Evaluations: expressions, and lines of the debugger's prompt.
 ghost use Rattle.std.specs.Prelude.{◌≡◌, ◌≢◌, IfOk};
-ghost use Rattle.dap_session.specs.Evaluations.{looking, evaluating, command_reply, prompt_command};
+ghost use Rattle.dap_session.specs.Evaluations.{looking, evaluating, command_reply};
+ghost use Rattle.dap_inputs.specs.Prompt.{prompt_command};
 ghost use Rattle.dap_session.specs.Evaluations.{prompting};
 ghost use Rattle.dap_board.specs.Commands.{command_result, IsPerformable};
 ghost use Rattle.dap_inspect.specs.Expressions.{message_of};
 ghost use Rattle.dap_session.specs.Represents.{RepliesAs};
 
-use crate::prompt::{PromptCommand, prompt_command};
 use crate::session::Session;
 use crate::session::requests::refuse_for;
 use base_text::text::Text;
 use dap_board::perform::perform;
 use dap_editor::message::{EditorBody, EditorOutcome};
 use dap_editor::request::EvaluateContext;
+use dap_inputs::prompt::{PromptCommand, prompt_command};
 use dap_inspect::expression::evaluate;
 use dap_inspect::fault::EvaluateFault;
 use dap_launch::reply::{Reply, succeed};

@@ -95,7 +95,7 @@ impl Session {
         Ok(succeed(body, FollowUp::Nothing))
     }
 
-    pub(super) fn is_stopped(&self) -> bool
+    pub fn is_stopped(&self) -> bool
         ensures { (s : SessionState) → RepresentsSession self.now s → result ≡ is_stopped s.board.run }
     {
         match self.lab.run_state() {

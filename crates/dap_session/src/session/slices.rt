@@ -1,14 +1,16 @@
 //! Slices of the run.
-ghost use Rattle.std.specs.Prelude.{◌≡◌};
+ghost use Rattle.std.specs.Prelude.{◌≡◌, ◌≤◌, IfOk, OnErr};
+ghost use Rattle.dap_session.specs.States.{SessionState};
 ghost use Rattle.dap_session.specs.Slices.{slice_told, settings_after};
-ghost use Rattle.dap_session.specs.Represents.{TellsAs};
+ghost use Rattle.dap_session.specs.Represents.{RepresentsSession, TellsAs, WantsSlice, SlicesWithin};
 
-use crate::session::Session;
+use crate::session::{RunSlice, Session};
 use base_text::sequence::Sequence;
 use dap_editor::message::Message;
 use dap_launch::life::{held_ends, note_end};
 use dap_program::slice::{Slice, make_slice};
 use lab_core::answer::SliceOutcome;
+use lab_core::run_slice::STEPS;
 use std::alloc::{AllocError, Global};
 
 impl Session {
@@ -20,11 +22,29 @@ impl Session {
         if !self.wants_slice() {
             return Ok(Sequence::new(alloc));
         }
-        let held = held_ends(self.settings.filters, &self.settings.program);
-        let slice = make_slice(alloc, &mut self.lab, held)?;
-        let Slice { messages, outcome } = slice;
-        self.leave(outcome);
+        let RunSlice {
+            messages,
+            executed: _,
+        } = self.run_within(alloc, STEPS)?;
         Ok(messages)
+    }
+
+    /// Makes at most `limit` steps of a run that goes on, from 1 to 4,096.
+    pub fn run_within(&mut self, alloc: Global, limit: u16) -> Result<RunSlice, AllocError>
+        requires { (1 ≤ limit) × (limit ≤ 4096) × WantsSlice self.old }
+        ensures ok { (s : SessionState) → RepresentsSession self.old s
+            → IfOk result (λ slice. SlicesWithin limit s slice self.new) }
+        ensures err { OnErr result (self.new ≡ self.old) }
+    {
+        let held = held_ends(self.settings.filters, &self.settings.program);
+        let slice = make_slice(alloc, &mut self.lab, limit, held)?;
+        let Slice {
+            messages,
+            executed,
+            outcome,
+        } = slice;
+        self.leave(outcome);
+        Ok(RunSlice { messages, executed })
     }
 
     // Notes in the settings how a slice ended.

@@ -1,0 +1,85 @@
+-- The inputs of a run among the requests: what is typed, switched, pressed and changed by hand.
+use Rattle.std.specs.Prelude.{ℕ, ◌-◌, [], ◌∷◌, take, Bool, true, false, Option, Some, None}
+use Rattle.std.specs.Prelude.{Result, Ok, Err}
+use Rattle.base_text.specs.Bytes.{Bytes, Text}
+use Rattle.base_text.specs.Latin.{latin_bytes}
+use Rattle.i80_exec.specs.declared.registers.Registers.{Registers}
+use Rattle.lab_views.specs.declared.place.Place.{Place}
+use Rattle.lab_views.specs.declared.place.Place.TheVariants as place
+use Rattle.lab_views.specs.declared.poke_fault.PokeFault.{PokeFault}
+use Rattle.lab_views.specs.Places.{place_named}
+use Rattle.lab_views.specs.Values.{value_spelled}
+use Rattle.lab_core.specs.Board.{Board}
+use Rattle.dap_talk.specs.declared.command.DapCommand.{DapCommand}
+use Rattle.dap_talk.specs.declared.command.DapCommand.TheVariants as command
+use Rattle.dap_editor.specs.declared.message.EditorOutcome.{EditorOutcome}
+use Rattle.dap_editor.specs.declared.message.EditorOutcome.TheVariants.{Success, Refused}
+use Rattle.dap_editor.specs.declared.request.EditorCommand.TheVariants as editor
+use Rattle.dap_editor.specs.declared.request.EvaluateContext.TheVariants.{Repl}
+use Rattle.dap_editor.specs.declared.request.RequestContent.{RequestContent}
+use Rattle.dap_editor.specs.declared.request.RequestContent.TheVariants as asked
+use Rattle.dap_history.specs.declared.input.Input.{Input}
+use Rattle.dap_history.specs.declared.input.Input.TheVariants as input
+use Rattle.dap_history.specs.Runs.{after_input}
+use Rattle.dap_program.specs.Memory.{address_at}
+use Rattle.dap_inputs.specs.declared.prompt.PromptCommand.{PromptCommand}
+use Rattle.dap_inputs.specs.declared.prompt.PromptCommand.TheVariants as prompt
+use Rattle.dap_inputs.specs.Prompt.{prompt_command}
+
+-- registers, one of which has another value; a byte of memory is none of them
+abbrev pub registers_with : Place → ℕ → Registers → Registers
+registers_with place.A value r = record r { a = value }
+registers_with place.B value r = record r { b = value }
+registers_with place.C value r = record r { c = value }
+registers_with place.D value r = record r { d = value }
+registers_with place.E value r = record r { e = value }
+registers_with place.H value r = record r { h = value }
+registers_with place.L value r = record r { l = value }
+registers_with place.Sp value r = record r { sp = value }
+registers_with place.Pc value r = record r { pc = value }
+registers_with (place.Memory address) value r = r
+
+-- a place gets a value
+abbrev pub place_input : Place → ℕ → Registers → Input
+place_input (place.Memory address) value r = input.Write address (value ∷ [])
+place_input register value r = input.Registers (registers_with register value r)
+
+abbrev pub valued_input : Place → Result ℕ PokeFault → Registers → Option Input
+valued_input place (Ok value) r = Some (place_input place value r)
+valued_input place (Err fault) r = None
+
+abbrev pub named_input : Result Place PokeFault → Text → Registers → Option Input
+named_input (Ok place) value r = valued_input place (value_spelled place value) r
+named_input (Err fault) value r = None
+
+abbrev pub command_input : DapCommand → Registers → Option Input
+command_input (command.BoardType text) r = Some (input.Typed (latin_bytes text))
+command_input (command.BoardSwitches value) r = Some (input.Switches value)
+command_input (command.BoardPress vector) r = Some (input.Press vector)
+command_input (command.SetVariable reference name value) r = named_input (place_named reference name) value r
+command_input other r = None
+
+abbrev pub prompt_input : PromptCommand → Registers → Option Input
+prompt_input (prompt.Board c) r = command_input c r
+prompt_input other r = None
+
+abbrev pub bytes_input : Option ℕ → Bytes → Option Input
+bytes_input None bytes = None
+bytes_input (Some start) bytes = Some (input.Write start (take (65536 - start) bytes))
+
+-- what a request changes by hand if it is carried out, on a board with these registers
+abbrev pub input_of : RequestContent → Registers → Option Input
+input_of (asked.Board c) r = command_input c r
+input_of (asked.Editor (editor.Evaluate expression Repl)) r = prompt_input (prompt_command expression) r
+input_of (asked.Editor (editor.WriteMemory address offset bytes)) r =
+    bytes_input (address_at address offset) bytes
+input_of (asked.Editor (editor.Goto target)) r = Some (input.Registers (record r { pc = target }))
+input_of other r = None
+
+abbrev pub after_input_if : Option Input → Board → Board
+after_input_if None b = b
+after_input_if (Some i) b = after_input i b
+
+abbrev pub is_success : EditorOutcome → Bool
+is_success (Success body) = true
+is_success (Refused text) = false

@@ -1,0 +1,173 @@
+//! The inputs of a run among the requests.
+ghost use Rattle.std.specs.Prelude.{◌≡◌, ◌≤◌, IfOk};
+ghost use Rattle.lab_views.specs.Places.{place_named};
+ghost use Rattle.lab_views.specs.Values.{largest_at};
+ghost use Rattle.dap_program.specs.Memory.{address_at};
+ghost use Rattle.dap_inputs.specs.Prompt.{prompt_command};
+ghost use Rattle.dap_inputs.specs.Inputs as inputs;
+ghost use Rattle.dap_inputs.specs.Inputs.{registers_with, place_input, named_input, command_input};
+ghost use Rattle.dap_inputs.specs.Inputs.{prompt_input, bytes_input};
+
+use crate::prompt::{PromptCommand, prompt_command};
+use base_text::latin::to_bytes;
+use base_text::sequence::Bytes;
+use dap_editor::request::{EditorCommand, EvaluateContext, RequestContent, SignedOffset};
+use dap_history::input::Input;
+use dap_program::memory::address_at;
+use dap_talk::command::DapCommand;
+use i80_exec::registers::Registers;
+use lab_views::place::{Place, place_of};
+use lab_views::value::value_of;
+use std::alloc::{AllocError, Global};
+
+// These registers, one of which has another value.
+fn registers_with(place: Place, value: u16, registers: Registers) -> Registers
+    requires { value ≤ largest_at place }
+    ensures { result ≡ registers_with place value registers }
+{
+    let mut changed = registers;
+    match place {
+        Place::A => changed.a = value as u8,
+        Place::B => changed.b = value as u8,
+        Place::C => changed.c = value as u8,
+        Place::D => changed.d = value as u8,
+        Place::E => changed.e = value as u8,
+        Place::H => changed.h = value as u8,
+        Place::L => changed.l = value as u8,
+        Place::Sp => changed.sp = value,
+        Place::Pc => changed.pc = value,
+        Place::Memory(_) => {}
+    }
+    changed
+}
+
+fn place_input(
+    alloc: Global,
+    place: Place,
+    value: u16,
+    registers: Registers,
+) -> Result<Input, AllocError>
+    requires { value ≤ largest_at place }
+    ensures { IfOk result (λ input. input ≡ place_input place value registers) }
+{
+    match place {
+        Place::Memory(address) => {
+            let bytes = Bytes::copy_of(alloc, &[value as u8])?;
+            Ok(Input::Write { address, bytes })
+        }
+        _ => Ok(Input::Registers(registers_with(place, value, registers))),
+    }
+}
+
+fn named_input(
+    alloc: Global,
+    reference: u32,
+    name: &str,
+    value: &str,
+    registers: Registers,
+) -> Result<Option<Input>, AllocError>
+    ensures { IfOk result (λ input. input
+        ≡ named_input (place_named reference name.now) value.now registers) }
+{
+    let Ok(place) = place_of(reference, name) else {
+        return Ok(None);
+    };
+    let Ok(number) = value_of(place, value) else {
+        return Ok(None);
+    };
+    let input = place_input(alloc, place, number, registers)?;
+    Ok(Some(input))
+}
+
+fn command_input(
+    alloc: Global,
+    command: &DapCommand,
+    registers: Registers,
+) -> Result<Option<Input>, AllocError>
+    ensures { IfOk result (λ input. input ≡ command_input command.now registers) }
+{
+    match command {
+        DapCommand::BoardType { text } => {
+            let bytes = to_bytes(alloc, text.as_str())?;
+            Ok(Some(Input::Typed(bytes)))
+        }
+        DapCommand::BoardSwitches { value } => Ok(Some(Input::Switches(*value))),
+        DapCommand::BoardPress { vector } => Ok(Some(Input::Press(*vector))),
+        DapCommand::SetVariable {
+            reference,
+            name,
+            value,
+        } => named_input(alloc, *reference, name.as_str(), value.as_str(), registers),
+        _ => Ok(None),
+    }
+}
+
+fn prompt_input(
+    alloc: Global,
+    line: &str,
+    registers: Registers,
+) -> Result<Option<Input>, AllocError>
+    ensures { IfOk result (λ input. input ≡ prompt_input (prompt_command line.now) registers) }
+{
+    match prompt_command(alloc, line)? {
+        PromptCommand::Board(command) => {
+            let input = command_input(alloc, &command, registers);
+            drop(command);
+            input
+        }
+        PromptCommand::MissingByte | PromptCommand::Evaluate => Ok(None),
+    }
+}
+
+fn bytes_input(
+    alloc: Global,
+    address: u16,
+    offset: SignedOffset,
+    bytes: &Bytes,
+) -> Result<Option<Input>, AllocError>
+    ensures { IfOk result (λ input. input ≡ bytes_input (address_at address offset) bytes.now) }
+{
+    let Some(start) = address_at(address, offset) else {
+        return Ok(None);
+    };
+    let all = bytes.as_slice();
+    let room = 65_536 - usize::from(start);
+    let written = &all[..room.min(all.len())];
+    let bytes = Bytes::copy_of(alloc, written)?;
+    Ok(Some(Input::Write {
+        address: start,
+        bytes,
+    }))
+}
+
+/// What a request changes by hand if it is carried out, on a board with these registers.
+pub fn input_of(
+    alloc: Global,
+    asked: &RequestContent,
+    registers: Registers,
+) -> Result<Option<Input>, AllocError>
+    ensures { IfOk result (λ input. input ≡ inputs.input_of asked.now registers) }
+{
+    match asked {
+        RequestContent::Board(command) => command_input(alloc, command, registers),
+        RequestContent::Editor(
+            EditorCommand::Evaluate {
+                expression,
+                context: EvaluateContext::Repl,
+            },
+        ) => prompt_input(alloc, expression.as_str(), registers),
+        RequestContent::Editor(
+            EditorCommand::WriteMemory {
+                address,
+                offset,
+                bytes,
+            },
+        ) => bytes_input(alloc, *address, *offset, bytes),
+        RequestContent::Editor(EditorCommand::Goto { target }) => {
+            let mut changed = registers;
+            changed.pc = *target;
+            Ok(Some(Input::Registers(changed)))
+        }
+        _ => Ok(None),
+    }
+}

@@ -1,0 +1,326 @@
+-- Requests that leave a recorded session as it was, and what is so while a search goes on.
+use Rattle.std.proofs.Common.{◌≡◌, ◌∙◌, List, [], ◌∷◌, Bool, true, false, not, ◌&&◌, ◌||◌, Option, Some, None}
+use Rattle.std.proofs.Common.{if◌then◌else◌, refl, sym, ap, subst, true≢false}
+use Rattle.std.specs.Prelude.{option_and_then}
+use Rattle.std.proofs.lemmas.Option.{none-some}
+use Rattle.base_text.specs.Bytes.{Text}
+use Rattle.i80_exec.specs.declared.registers.Registers.{Registers}
+use Rattle.lab_core.specs.declared.run_state.RunState.TheVariants.{Stopped}
+use Rattle.lab_core.specs.Board.{Board}
+use Rattle.dap_talk.specs.declared.command.DapCommand.{DapCommand}
+use Rattle.dap_talk.specs.declared.command.DapCommand.TheVariants as command
+use Rattle.dap_editor.specs.declared.message.EditorOutcome.{EditorOutcome}
+use Rattle.dap_editor.specs.declared.message.EditorOutcome.TheVariants.{Refused}
+use Rattle.dap_editor.specs.declared.request.EditorCommand.{EditorCommand}
+use Rattle.dap_editor.specs.declared.request.EditorCommand.TheVariants as editor
+use Rattle.dap_editor.specs.declared.request.EvaluateContext.TheVariants as context
+use Rattle.dap_editor.specs.declared.request.RequestContent.{RequestContent}
+use Rattle.dap_editor.specs.declared.request.RequestContent.TheVariants as asked
+use Rattle.dap_history.specs.declared.goal.Goal.{Goal}
+use Rattle.dap_history.specs.Runs.{board_at}
+use Rattle.dap_launch.specs.declared.file.FileText.{FileText}
+use Rattle.dap_inputs.specs.Inputs.{input_of, is_success}
+use Rattle.dap_session.specs.States.{SessionState, with_waits}
+use Rattle.dap_session.specs.Turns.{Turn}
+use Rattle.dap_session.specs.Requests as session
+use Rattle.dap_session.specs.Rewinds.{can_go_back, rewound}
+use Rattle.dap_session.specs.Laws.{asks_to_load, LeavesAll}
+use Rattle.dap_session.proofs.RefusalLemmas.{refused_turn}
+use Rattle.dap_record.specs.declared.mid_search.MidSearch.TheVariants as mid
+use Rattle.dap_record.specs.declared.back.Back.{Back}
+use Rattle.dap_record.specs.Recordings.{Recording, RecordedState, recorded_before_requests, new_recording}
+use Rattle.dap_record.specs.Recordings.{kept_while, with_input_if, begins, input_made, recording_after}
+use Rattle.dap_record.specs.Backward.{back_of}
+use Rattle.dap_record.specs.MidSearch.{mid_search}
+use Rattle.dap_record.specs.Turns.{RecordedTurn, recorded_turn, back_in, turn_of, turn}
+use Rattle.dap_record.specs.Slices.{RecordedTold, slice_told, Input, request, slice, step, play_all}
+use Rattle.dap_record.proofs.RecordedLemmas.{look_leaves}
+use Rattle.dap_record.proofs.TravelLemmas.{can_rewound}
+use Rattle.dap_laws.specs.Recorded.{after_all, IsRecordingOfIf, RefusalLeaves, tried_again}
+use Rattle.dap_laws.proofs.CaseLemmas.{turn_for, of_turn, of_back, of_slice}
+use Rattle.dap_laws.proofs.RecordingLemmas.{recording_is}
+
+-- ---- while a search goes on
+
+-- the run is held where it is, and the session was initialized
+pub record IsHeld (s : SessionState) : Type 0 where
+  pub can : can_go_back s ≡ true
+  pub run : s.board.run ≡ Stopped
+  pub is_initialized : s.settings.is_initialized ≡ true
+
+abbrev pub IsHeldIf : Option Goal → SessionState → Type 0
+IsHeldIf None s = Unit {0}
+IsHeldIf (Some goal) s = IsHeld s
+
+pub held_in : (v : RecordedState) (goal : Goal) → v.search ≡ Some goal → IsHeldIf v.search v.session
+    → IsHeld v.session
+held_in v goal on held = subst (λ o. IsHeldIf o v.session) on held
+
+held_waits : (o : Option Goal) (s : SessionState) → IsHeldIf o s → IsHeldIf o (with_waits false s)
+held_waits None s held = tt
+held_waits (Some goal) s held =
+    record { can = held.can; run = held.run; is_initialized = held.is_initialized }
+
+held_looked : (a : RequestContent) (found : Option FileText) (v : RecordedState) → mid_search a ≡ mid.Look
+    → IsHeldIf v.search v.session → IsHeldIf v.search (turn_for a found v).state
+held_looked a found v is held =
+    subst (λ s. IsHeldIf v.search s) (sym (look_leaves a found v.session is))
+    (held_waits v.search v.session held)
+
+-- only an initialized session goes back
+initialized_by : (b : Bool) (a : RequestContent) (c : Back) → (if b then back_of a else None) ≡ Some c
+    → b ≡ true
+initialized_by true a c is = refl
+initialized_by false a c is = absurd cc
+
+begins_held : (a : RequestContent) (c : Back) (r : Recording) (s : SessionState) → back_in a s ≡ Some c
+    → can_go_back s ≡ true → IsHeld (rewound (board_at r.start r.log r.count) s)
+begins_held a c r s is can = record {
+  can = can_rewound (board_at r.start r.log r.count) s can;
+  run = refl;
+  is_initialized = initialized_by s.settings.is_initialized a c is;
+}
+
+held_turn : (a : RequestContent) (found : Option FileText) (v : RecordedState)
+    → IsHeldIf v.search v.session → IsHeldIf (turn a found v).state.search (turn a found v).state.session
+held_turn a found v held =
+    of_turn (λ (t : RecordedTurn). IsHeldIf t.state.search t.state.session) a found v (record {
+      onward = λ none is. tt;
+      back = λ c none is. of_back (λ r. IsHeldIf (turn_of r).state.search (turn_of r).state.session) c v
+          (record {
+            refused = λ text. tt;
+            arrives = λ by r count on can within. tt;
+            searches = λ goal by r on can stopped. begins_held a c r v.session is can;
+          });
+      look = λ goal on is. held_looked a found v is held;
+      pause = λ goal on is. tt;
+      ends = λ goal on is. tt;
+      other = λ goal on is. held;
+    })
+
+held_slice : (finds : Bool) (v : RecordedState) → IsHeldIf v.search v.session
+    → IsHeldIf (slice_told finds v).state.search (slice_told finds v).state.session
+held_slice finds v held =
+    of_slice (λ (t : RecordedTold). IsHeldIf t.state.search t.state.session) finds v (record {
+      idles = λ none is. held;
+      plain = λ none is wants. tt;
+      recorded = λ r none is wants. tt;
+      searches = λ goal on. held;
+      finds = λ goal r on is. tt;
+    })
+
+pub held_step : (input : Input) (v : RecordedState) → IsHeldIf v.search v.session
+    → IsHeldIf (step input v).state.search (step input v).state.session
+held_step (request r found) v held = held_turn r.asked found v held
+held_step (slice finds) v held = held_slice finds v held
+
+held_played : (inputs : List Input) (v : RecordedState) → IsHeldIf v.search v.session
+    → IsHeldIf (play_all inputs v).state.search (play_all inputs v).state.session
+held_played [] v held = held
+held_played (input ∷ inputs) v held = held_played inputs (step input v).state (held_step input v held)
+
+held_is : (inputs : List Input) → IsHeldIf (after_all inputs).search (after_all inputs).session
+held_is inputs = held_played inputs recorded_before_requests tt
+
+-- ---- the recording after a request that is no input, where no run begins
+
+kept_if : (b : Bool) (o : Option Recording) → b ≡ true → (if b then o else None) ≡ o
+kept_if true o is = refl
+kept_if false o is = absurd (true≢false (sym is))
+
+either_if : (b : Bool) (o : Option Recording) → (if b then o else o) ≡ o
+either_if true o = refl
+either_if false o = refl
+
+no_input : (o : Option Recording) → option_and_then (with_input_if None) o ≡ o
+no_input None = refl
+no_input (Some r) = refl
+
+-- what can go back, is recorded
+still_kept : (o : Option Recording) (s s' : SessionState) → IsRecordingOfIf o s
+    → can_go_back s' ≡ can_go_back s → kept_while s' o ≡ o
+still_kept None s s' of same = either_if (can_go_back s') None
+still_kept (Some r) s s' of same = kept_if (can_go_back s') (Some r) (same ∙ of.can)
+
+-- ---- refusals
+
+refused_failed : (o : EditorOutcome) (text : Text) → o ≡ Refused text → is_success o ≡ false
+refused_failed o text is = ap is_success is
+
+still_can : (s s' : SessionState) → LeavesAll s s' → can_go_back s' ≡ can_go_back s
+still_can s s' leaves = λ i. can_go_back (record {
+  board = leaves.board i;
+  settings = record s.settings { program = leaves.program i };
+})
+
+failed_recording : (success : Bool) (a : RequestContent) (s : SessionState) (t : Turn) (o : Option Recording)
+    → success ≡ false
+    → (if success && (asks_to_load a || not (can_go_back s)) then Some (new_recording t.state.board)
+    else option_and_then (with_input_if (if success then input_of a s.board.machine.regs else None)) o)
+    ≡ o
+failed_recording false a s t o is = no_input o
+failed_recording true a s t o is = absurd (true≢false is)
+
+refused_recording : (a : RequestContent) (found : Option FileText) (v : RecordedState) (text : Text)
+    → IsRecordingOfIf v.recording v.session → (turn_for a found v).outcome ≡ Refused text
+    → recording_after a v.session (turn_for a found v) v.recording ≡ v.recording
+refused_recording a found v text of refused =
+    let t = turn_for a found v in
+    ap (kept_while t.state) (failed_recording (is_success t.outcome) a v.session t v.recording
+    (refused_failed t.outcome text refused))
+    ∙ still_kept v.recording v.session t.state of
+    (still_can v.session t.state (refused_turn a found v.session text refused))
+
+-- what ends a search is never refused
+ends_done : (a : RequestContent) (found : Option FileText) (s : SessionState) → mid_search a ≡ mid.End
+    → s.settings.is_initialized ≡ true → is_success (session.turn a found s).outcome ≡ true
+unfolding session.turn
+ends_done (asked.Board command.Disconnect) found s is opened = rw opened refl
+ends_done (asked.Editor editor.Terminate) found s is opened = rw opened refl
+ends_done (asked.Editor (editor.Evaluate expression context.Other)) found s is opened = absurd cc
+ends_done (asked.Board c) found s is opened = absurd cc
+ends_done (asked.Editor c) found s is opened = absurd cc
+ends_done (asked.Faulty f) found s is opened = absurd cc
+
+refused_onward : (a : RequestContent) (found : Option FileText) (v : RecordedState)
+    → IsRecordingOfIf v.recording v.session → v.search ≡ None
+    → RefusalLeaves v (recorded_turn a v (turn_for a found v))
+refused_onward a found v of none = λ text refused. record {
+  session = refused_turn a found v.session text refused;
+  recording = refused_recording a found v text of refused;
+  search = sym none;
+}
+
+refused_end : (a : RequestContent) (found : Option FileText) (v : RecordedState) → mid_search a ≡ mid.End
+    → IsHeld v.session → RefusalLeaves v (recorded_turn a v (turn_for a found v))
+refused_end a found v is held = λ text refused.
+    absurd (true≢false (sym (ends_done a found v.session is held.is_initialized)
+    ∙ refused_failed (turn_for a found v).outcome text refused))
+
+same : (s : SessionState) → LeavesAll s s
+same s = record { board = refl; program = refl; points = refl }
+
+refused_leaves : (a : RequestContent) (found : Option FileText) (v : RecordedState)
+    → IsRecordingOfIf v.recording v.session → IsHeldIf v.search v.session
+    → RefusalLeaves v (turn a found v)
+refused_leaves a found v of held =
+    of_turn (RefusalLeaves v) a found v (record {
+      onward = λ none is. refused_onward a found v of none;
+      back = λ c none is. of_back (λ r. RefusalLeaves v (turn_of r)) c v (record {
+        refused = λ reason text refused.
+            record { session = same v.session; recording = refl; search = sym none };
+        arrives = λ by r count on can within text refused. absurd cc;
+        searches = λ goal by r on can stopped text refused. absurd cc;
+      });
+      look = λ goal on is text refused.
+          record {
+            session = refused_turn a found v.session text refused;
+            recording = refl;
+            search = refl;
+          };
+      pause = λ goal on is text refused. absurd cc;
+      ends = λ goal on is. refused_end a found v is (held_in v goal on held);
+      other = λ goal on is text refused.
+          record { session = same v.session; recording = refl; search = refl };
+    })
+
+pub refused_all : (inputs : List Input) (a : RequestContent) (found : Option FileText)
+    → RefusalLeaves (after_all inputs) (turn a found (after_all inputs))
+refused_all inputs a found = refused_leaves a found (after_all inputs) (recording_is inputs) (held_is inputs)
+
+-- ---- looks
+
+-- a look loads nothing, makes no input and doesn't go back
+pub record IsNoChange (a : RequestContent) : Type 0 where
+  pub loads : asks_to_load a ≡ false
+  pub input : (r : Registers) → input_of a r ≡ None
+  pub back : back_of a ≡ None
+
+look_command : (c : DapCommand) → mid_search (asked.Board c) ≡ mid.Look → IsNoChange (asked.Board c)
+look_command command.Threads is = record { loads = refl; input = λ r. refl; back = refl }
+look_command (command.StackTrace start levels) is = record { loads = refl; input = λ r. refl; back = refl }
+look_command (command.Scopes frame) is = record { loads = refl; input = λ r. refl; back = refl }
+look_command (command.Variables reference start count) is =
+    record { loads = refl; input = λ r. refl; back = refl }
+look_command (command.Disassemble address offset instruction_offset count) is =
+    record { loads = refl; input = λ r. refl; back = refl }
+look_command (command.Source path) is = record { loads = refl; input = λ r. refl; back = refl }
+look_command other is = absurd cc
+
+look_editing : (c : EditorCommand) → mid_search (asked.Editor c) ≡ mid.Look → IsNoChange (asked.Editor c)
+look_editing (editor.Evaluate expression context.Other) is =
+    record { loads = refl; input = λ r. refl; back = refl }
+look_editing editor.ExceptionInfo is = record { loads = refl; input = λ r. refl; back = refl }
+look_editing (editor.ReadMemory address offset count) is =
+    record { loads = refl; input = λ r. refl; back = refl }
+look_editing (editor.Disassemble address offset instruction_offset count) is =
+    record { loads = refl; input = λ r. refl; back = refl }
+look_editing editor.LoadedSources is = record { loads = refl; input = λ r. refl; back = refl }
+look_editing (editor.GotoTargets path line) is = record { loads = refl; input = λ r. refl; back = refl }
+look_editing other is = absurd cc
+
+look_changes : (a : RequestContent) → mid_search a ≡ mid.Look → IsNoChange a
+look_changes (asked.Board c) is = look_command c is
+look_changes (asked.Editor c) is = look_editing c is
+look_changes (asked.Faulty f) is = record { loads = refl; input = λ r. refl; back = refl }
+
+-- by whether the request succeeds, and the run can go back
+look_recording : (success loads can : Bool) (a : RequestContent) (s : SessionState) (b : Board)
+    (o : Option Recording) → loads ≡ false → can ≡ can_go_back s → IsNoChange a → IsRecordingOfIf o s
+    → (if can then
+    (if success && (loads || not can) then Some (new_recording b)
+    else option_and_then (with_input_if (if success then input_of a s.board.machine.regs else None)) o)
+    else None)
+    ≡ o
+look_recording true false true a s b o loads_is can_is none of =
+    ap (λ i. option_and_then (with_input_if i) o) (none.input s.board.machine.regs) ∙ no_input o
+look_recording false false true a s b o loads_is can_is none of = no_input o
+look_recording success false false a s b None loads_is can_is none of = refl
+look_recording success false false a s b (Some r) loads_is can_is none of =
+    absurd (true≢false (sym of.can ∙ sym can_is))
+look_recording success true can a s b o loads_is can_is none of = absurd (true≢false loads_is)
+
+looked_recording : (a : RequestContent) (found : Option FileText) (v : RecordedState)
+    → mid_search a ≡ mid.Look → IsRecordingOfIf v.recording v.session
+    → recording_after a v.session (turn_for a found v) v.recording ≡ v.recording
+looked_recording a found v is of =
+    let t = turn_for a found v in
+    let s = v.session in
+    let none = look_changes a is in
+    ap (λ can. if can then
+    (if begins a s t then Some (new_recording t.state.board)
+    else option_and_then (with_input_if (input_made a s t)) v.recording)
+    else None) (ap can_go_back (look_leaves a found s is))
+    ∙ look_recording (is_success t.outcome) (asks_to_load a) (can_go_back s) a s t.state.board v.recording
+    none.loads refl none of
+
+looked_onward : (a : RequestContent) (found : Option FileText) (v : RecordedState) → v.search ≡ None
+    → mid_search a ≡ mid.Look → IsRecordingOfIf v.recording v.session
+    → (recorded_turn a v (turn_for a found v)).state ≡ tried_again v
+looked_onward a found v none is of = λ i. record {
+  session = look_leaves a found v.session is i;
+  recording = looked_recording a found v is of i;
+  search = sym none i;
+}
+
+no_way_back : (b : Bool) (a : RequestContent) (c : Back) → back_of a ≡ None
+    → (if b then back_of a else None) ≡ Some c → ⊥
+no_way_back true a c none is = absurd (none-some c (sym none ∙ is))
+no_way_back false a c none is = absurd (none-some c is)
+
+looks_leave : (a : RequestContent) (found : Option FileText) (v : RecordedState) → mid_search a ≡ mid.Look
+    → IsRecordingOfIf v.recording v.session → (turn a found v).state ≡ tried_again v
+looks_leave a found v look of =
+    of_turn (λ (t : RecordedTurn). t.state ≡ tried_again v) a found v (record {
+      onward = λ none is. looked_onward a found v none look of;
+      back = λ c none is.
+          absurd (no_way_back v.session.settings.is_initialized a c (look_changes a look).back is);
+      look = λ goal on is. ap (λ s. record v { session = s }) (look_leaves a found v.session look);
+      pause = λ goal on is. absurd cc;
+      ends = λ goal on is. absurd cc;
+      other = λ goal on is. absurd cc;
+    })
+
+pub looks_all : (inputs : List Input) (a : RequestContent) (found : Option FileText)
+    → mid_search a ≡ mid.Look → (turn a found (after_all inputs)).state ≡ tried_again (after_all inputs)
+looks_all inputs a found look = looks_leave a found (after_all inputs) look (recording_is inputs)

@@ -1,0 +1,5 @@
+use Rattle.dap_session.proofs.EndLemmas.{end_told_so}
+use Rattle.dap_laws.proofs.session.end_is_told_as_it_was.Goals as goal
+
+pub returns : goal.returns
+returns c = end_told_so

@@ -1,0 +1,5 @@
+use Rattle.dap_session.proofs.LawLemmas.{kept_look}
+use Rattle.dap_laws.proofs.session.looks_keep_board.Goals as goal
+
+pub returns : goal.returns
+returns c = kept_look

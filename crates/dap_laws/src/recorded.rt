@@ -1,0 +1,99 @@
+//! What holds of every session whose run is recorded (dap_record): where it is, and where going back leads.
+ghost use Rattle.std.specs.Prelude.{◌≡◌, ◌∷◌, List, Bool, true, Option, Some};
+ghost use Rattle.lab_core.specs.declared.answer.End.{End};
+ghost use Rattle.dap_editor.specs.declared.request.EditorRequest.{EditorRequest};
+ghost use Rattle.dap_editor.specs.declared.request.RequestContent.{RequestContent};
+ghost use Rattle.dap_history.specs.declared.goal.Goal.{Goal};
+ghost use Rattle.dap_launch.specs.declared.file.FileText.{FileText};
+ghost use Rattle.dap_program.specs.Messages.{response, as_messages};
+ghost use Rattle.dap_program.specs.SliceEnds.{after_slice_within};
+ghost use Rattle.dap_session.specs.Slices.{caller_of};
+ghost use Rattle.dap_session.specs.Laws.{callers_answered, console_of, shown_by, shown_for, SameParts};
+ghost use Rattle.dap_session.specs.Laws.{EndIsTold};
+ghost use Rattle.dap_record.specs.declared.mid_search.MidSearch.TheVariants as mid;
+ghost use Rattle.dap_record.specs.MidSearch.{mid_search};
+ghost use Rattle.dap_record.specs.Recordings.{Recording, RecordedState, recorded_before_requests};
+ghost use Rattle.dap_record.specs.Turns.{turn};
+ghost use Rattle.dap_record.specs.Slices.{Input, request_told, slice_told, slice_limit, play_all};
+ghost use Rattle.dap_laws.specs.Recorded.{after_all, IsRecordingOfIf, IsSamePlaceIf, MeetsGoal};
+ghost use Rattle.dap_laws.specs.Recorded.{callers_asking, all_written, RefusalLeaves, tried_again};
+ghost use Rattle.dap_laws.specs.Recorded.{EndsAreTold, EndsNext, session_told};
+
+/// At every moment the board is the one that the recorded run has after so many steps: machine, devices and
+/// trace are the same. A run is recorded only while it can go back.
+pub fn board_is_run()
+    ensures { (inputs : List Input)
+        → IsRecordingOfIf (after_all inputs).recording (after_all inputs).session }
+{}
+
+/// Going back and forth is nothing: at the same place of the same run, the machine, the devices and the trace
+/// are the same.
+pub fn same_place_same_board()
+    ensures { (inputs others : List Input)
+        → IsSamePlaceIf (after_all inputs).recording (after_all others).recording
+        → SameParts (after_all inputs).session.board (after_all others).session.board }
+{}
+
+/// A search that finds its goal puts the run to the last count of steps before now at which it passes, or to
+/// its start if it passes at none.
+pub fn search_meets()
+    ensures { (goal : Goal) (r : Recording) (v : RecordedState)
+        → v.search ≡ Some goal → v.recording ≡ Some r
+        → MeetsGoal goal r v.session (slice_told true v) }
+{}
+
+/// Each request has one response, in the order in which they came, with its number and its command.
+pub fn requests_are_answered()
+    ensures { (inputs : List Input) (v : RecordedState)
+        → callers_answered (play_all inputs v).messages ≡ callers_asking inputs }
+{}
+
+/// The response to a request goes out before the events that it causes.
+pub fn response_is_first()
+    ensures { (r : EditorRequest) (found : Option FileText) (v : RecordedState)
+        → (request_told r found v).messages ≡ response (caller_of r) (turn r.asked found v).outcome
+        ∷ as_messages (turn r.asked found v).events }
+{}
+
+/// A request that is refused leaves the board, the program, the breakpoints, the recording and the search as
+/// they were.
+pub fn refusals_leave_all()
+    ensures { (inputs : List Input) (a : RequestContent) (found : Option FileText)
+        → RefusalLeaves (after_all inputs) (turn a found (after_all inputs)) }
+{}
+
+/// At every moment the events have told whether the run on the board is stopped, also while it goes back.
+pub fn stops_are_told()
+    ensures { (inputs : List Input)
+        → shown_by (play_all inputs recorded_before_requests).messages
+        ≡ shown_for (after_all inputs).session.board.run }
+{}
+
+/// A run is on the board exactly while a program has begun and isn't over. Without a live program nothing but
+/// a launch or a restart tells more than its response. Where a live program ends `terminated` goes out once,
+/// and nowhere else.
+pub fn end_is_told()
+    ensures { (inputs : List Input) → EndsAreTold (after_all inputs) }
+{}
+
+/// A request that only looks leaves the board, the recording and the search as they were.
+pub fn looks_leave_all()
+    ensures { (inputs : List Input) (a : RequestContent) (found : Option FileText)
+        → mid_search a ≡ mid.Look
+        → (turn a found (after_all inputs)).state ≡ tried_again (after_all inputs) }
+{}
+
+/// What goes out as standard output is every byte that the run's steps write by OUT 1, in order. Steps that a
+/// run makes again, since it went back, add nothing.
+pub fn output_is_told_once()
+    ensures { (inputs : List Input) (v : RecordedState)
+        → console_of (play_all inputs v).messages ≡ all_written inputs v }
+{}
+
+/// What a slice tells last, where a recorded run ends, is how it ended. The machine, the devices and the
+/// trace are as the run left them, and a run that is held there has that exit code once it goes on.
+pub fn end_is_told_as_it_was()
+    ensures { (how : End) (r : Recording) (v : RecordedState) (finds : Bool) → EndsNext how r v
+        → EndIsTold how v.session (after_slice_within (slice_limit r) v.session.board)
+        (session_told (slice_told finds v)) }
+{}

@@ -1,0 +1,16 @@
+// A debugger's session whose run goes back. What is typed, switched, pressed and changed by hand is recorded,
+// each with the count of steps at which it came; so the run can be put back to any of its boards, and what
+// lies ahead is made again on the way forward. Of every list of requests and slices the messages are a stated
+// function (`play_all`), and at every moment the board is the one that the recorded run has after so many
+// steps (`RepresentsRecording`). If memory runs out a session can't be used any more.
+#![tactic(auto)]
+
+pub mod back;
+mod input;
+mod mid_search;
+mod note;
+pub mod recorded;
+pub mod recording;
+pub mod search;
+mod slice;
+mod travel;

@@ -1,0 +1,367 @@
+-- What requests make of a run: their inputs, and nothing else.
+use Rattle.std.proofs.Common.{◌≡◌, ◌∙◌, ℕ, ◌++◌, Bool, true, false, Option, Some, None, Result, Ok, Err}
+use Rattle.std.proofs.Common.{option_map, codes, if◌then◌else◌, refl, sym, ap, subst, true≢false}
+use Rattle.base_text.specs.Bytes.{Bytes, Text}
+use Rattle.base_text.specs.Latin.{latin_bytes}
+use Rattle.asm_syntax.specs.Outcome.{◌>>=◌}
+use Rattle.lab_views.specs.declared.place.Place.{Place}
+use Rattle.lab_views.specs.declared.place.Place.TheVariants as place
+use Rattle.lab_views.specs.declared.poke_fault.PokeFault.{PokeFault}
+use Rattle.lab_views.specs.declared.view.View.{View}
+use Rattle.lab_views.specs.declared.view.View.TheVariants as view
+use Rattle.lab_views.specs.Changes.{machine_with}
+use Rattle.lab_views.specs.Places.{place_named}
+use Rattle.lab_views.specs.Values.{value_spelled, text_at}
+use Rattle.lab_shown.specs.declared.step.StepKind.{StepKind}
+use Rattle.lab_shown.specs.declared.step.Granularity.{Granularity}
+use Rattle.lab_core.specs.declared.answer.Answer.{Answer}
+use Rattle.lab_core.specs.declared.answer.Answer.TheVariants as answer
+use Rattle.lab_core.specs.declared.answer.End.{End}
+use Rattle.lab_core.specs.declared.event.Event.TheVariants as event
+use Rattle.lab_core.specs.declared.run_state.RunState.{RunState}
+use Rattle.lab_core.specs.declared.run_state.RunState.TheVariants.{NoRun, Running, Stopped}
+use Rattle.lab_core.specs.Board.{Board}
+use Rattle.lab_core.specs.Events.{EventResult, result_of, while_stopped, without_run, or_poke, changed_to}
+use Rattle.dap_answers.specs.declared.answer.Body.{Body}
+use Rattle.dap_answers.specs.declared.answer.Body.TheVariants as body
+use Rattle.dap_answers.specs.declared.answer.StopReason.TheVariants.{Pause as ByPause}
+use Rattle.dap_answers.specs.Murmur.{cell_path}
+use Rattle.dap_talk.specs.declared.command.DapCommand.{DapCommand}
+use Rattle.dap_talk.specs.declared.command.DapCommand.TheVariants as command
+use Rattle.dap_board.specs.Bodies.{body_of}
+use Rattle.dap_board.specs.Commands.{Performed, first_line, command_result, with_body, step_request}
+use Rattle.dap_editor.specs.declared.message.EditorStop.TheVariants.{Board as AtBoard}
+use Rattle.dap_editor.specs.declared.message.UndefinedOpcode.{UndefinedOpcode}
+use Rattle.dap_editor.specs.declared.request.EditorCommand.{EditorCommand}
+use Rattle.dap_editor.specs.declared.request.EditorCommand.TheVariants as editor
+use Rattle.dap_editor.specs.declared.request.EvaluateContext.{EvaluateContext}
+use Rattle.dap_editor.specs.declared.request.EvaluateContext.TheVariants as context
+use Rattle.dap_editor.specs.declared.request.RequestContent.{RequestContent}
+use Rattle.dap_editor.specs.declared.request.RequestContent.TheVariants as asked
+use Rattle.dap_editor.specs.declared.request.SignedOffset.{SignedOffset}
+use Rattle.dap_history.specs.declared.input.Input.{Input}
+use Rattle.dap_history.specs.declared.input.Input.TheVariants as input
+use Rattle.dap_history.specs.Runs.{board_of, after_input}
+use Rattle.dap_inspect.specs.declared.fault.EvaluateFault.{EvaluateFault}
+use Rattle.dap_inspect.specs.Expressions.{expression_text}
+use Rattle.dap_points.specs.Points.{has_place}
+use Rattle.dap_program.specs.declared.messages.FollowUp.{FollowUp}
+use Rattle.dap_program.specs.declared.messages.FollowUp.TheVariants as follow
+use Rattle.dap_program.specs.Ends.{exit_code}
+use Rattle.dap_program.specs.Memory.{address_at}
+use Rattle.dap_launch.specs.declared.file.FileText.{FileText}
+use Rattle.dap_launch.specs.declared.program.Phase.{Phase}
+use Rattle.dap_launch.specs.declared.program.Phase.TheVariants as phase
+use Rattle.dap_launch.specs.declared.program.Program.{Program}
+use Rattle.dap_launch.specs.Lives.{in_phase, end_of, exception_of}
+use Rattle.dap_session.specs.States.{SessionState}
+use Rattle.dap_session.specs.Turns.{Turn, Replied, turn_of, change_follow}
+use Rattle.dap_session.specs.Breakpoints.{program_at}
+use Rattle.dap_session.specs.Evaluations.{command_reply}
+use Rattle.dap_inputs.specs.Prompt.{behind, byte_spelled, byte_command, command_with}
+use Rattle.dap_session.specs.Evaluations.{value_told, prompting, evaluating}
+use Rattle.dap_inputs.specs.Inputs.{place_input, valued_input, named_input, command_input, prompt_input}
+use Rattle.dap_inputs.specs.Inputs.{bytes_input, input_of, after_input_if}
+use Rattle.dap_session.specs.Launches.{beginning_in, beginning_where}
+use Rattle.dap_session.specs.Memory.{is_stopped, writing_from, writing}
+use Rattle.dap_session.specs.Targets.{going_to}
+use Rattle.dap_session.specs.Requests.{board_done, finish_done, resuming_from, explaining, set_configured}
+use Rattle.dap_session.specs.Requests.{resetting, terminating, commanding, editing, editing_memory}
+use Rattle.dap_session.specs.Requests.{objection, asking}
+use Rattle.dap_session.specs.Requests.{asking_unless, turn}
+use Rattle.dap_session.specs.Laws.{SameParts, asks_to_load, has_run, has_begun, is_begun}
+use Rattle.dap_session.specs.Rewinds.{RunLasts, can_go_back}
+use Rattle.std.proofs.lemmas.Bool.{and_parts}
+use Rattle.dap_session.proofs.ChangeLemmas.{same, KeepsParts, kept_show, kept_dump, kept_where, kept_labels}
+use Rattle.dap_session.proofs.ChangeLemmas.{kept_pause, kept_resume}
+
+abbrev Makes : Option Input → SessionState → Replied → Type 0
+Makes i s r = RunLasts s (turn_of r) → SameParts (after_input_if i s.board) r.state.board
+
+either : (b : Bool) (i : Option Input) (s : SessionState) (r r' : Replied) → Makes i s r → Makes i s r'
+    → Makes i s (if b then r else r')
+either true i s r r' one two = one
+either false i s r r' one two = two
+
+-- ---- events
+
+kept_made : (to_body : Answer → Body) (g : EventResult) (f : FollowUp) (s : SessionState)
+    → KeepsParts s.board g → Makes None s (board_done (with_body to_body g) f s)
+kept_made to_body (Ok (a, b)) f s kept = λ l. kept
+kept_made to_body (Err fault) f s kept = λ l. absurd (true≢false (sym l.done))
+
+shown_made : (v : View) (s : SessionState)
+    → Makes None s (board_done (with_body body_of (result_of (event.Show v) s.board)) follow.Nothing s)
+shown_made v s = kept_made body_of _ follow.Nothing s (kept_show v s.board)
+
+event_made : (to_body : Answer → Body) (g : EventResult) (f : FollowUp) (s : SessionState) (i : Input)
+    → board_of s.board g ≡ after_input i s.board → Makes (Some i) s (board_done (with_body to_body g) f s)
+event_made to_body (Ok (a, b)) f s i is = λ l. subst (λ x. SameParts x b) is (same b)
+event_made to_body (Err fault) f s i is = λ l. absurd (true≢false (sym l.done))
+
+reply_made : (to_body : Answer → Body) (g : EventResult) (s : SessionState) (i : Input)
+    → board_of s.board g ≡ after_input i s.board → Makes (Some i) s (command_reply (with_body to_body g) s)
+reply_made to_body (Ok (a, b)) s i is = λ l. subst (λ x. SameParts x b) is (same b)
+reply_made to_body (Err fault) s i is = λ l. absurd (true≢false (sym l.done))
+
+-- ---- changes by hand
+
+abbrev poke_by : Result Place PokeFault → Text → Board → EventResult
+poke_by p text b = do
+  place ← or_poke p
+  n ← or_poke (value_spelled place text)
+  Ok (answer.Poked (text_at place n), changed_to (machine_with place n b.machine) b)
+
+put_made : (p : Place) (n : ℕ) (b : Board)
+    → SameParts (after_input (place_input p n b.machine.regs) b) (changed_to (machine_with p n b.machine) b)
+put_made place.A n b = record { machine = refl; past = refl; trace = refl }
+put_made place.B n b = record { machine = refl; past = refl; trace = refl }
+put_made place.C n b = record { machine = refl; past = refl; trace = refl }
+put_made place.D n b = record { machine = refl; past = refl; trace = refl }
+put_made place.E n b = record { machine = refl; past = refl; trace = refl }
+put_made place.H n b = record { machine = refl; past = refl; trace = refl }
+put_made place.L n b = record { machine = refl; past = refl; trace = refl }
+put_made place.Sp n b = record { machine = refl; past = refl; trace = refl }
+put_made place.Pc n b = record { machine = refl; past = refl; trace = refl }
+put_made (place.Memory address) n b = record { machine = refl; past = refl; trace = refl }
+
+valued_made : (v : Result ℕ PokeFault) (p : Place) (f : FollowUp) (s : SessionState)
+    → Makes (valued_input p v s.board.machine.regs) s
+    (board_done (with_body body_of (or_poke v >>= λ n. Ok (
+      answer.Poked (text_at p n),
+      changed_to (machine_with p n s.board.machine) s.board,
+    ))) f s)
+valued_made (Ok n) p f s = λ l. put_made p n s.board
+valued_made (Err fault) p f s = λ l. absurd (true≢false (sym l.done))
+
+named_made : (p : Result Place PokeFault) (text : Text) (f : FollowUp) (s : SessionState)
+    → Makes (named_input p text s.board.machine.regs) s
+    (board_done (with_body body_of (poke_by p text s.board)) f s)
+named_made (Ok p) text f s = valued_made (value_spelled p text) p f s
+named_made (Err fault) text f s = λ l. absurd (true≢false (sym l.done))
+
+poke_made : (run : RunState) (p : Result Place PokeFault) (text : Text) (f : FollowUp) (s : SessionState)
+    → Makes (named_input p text s.board.machine.regs) s
+    (board_done (with_body body_of (while_stopped run (poke_by p text s.board))) f s)
+poke_made NoRun p text f s = λ l. absurd (true≢false (sym l.done))
+poke_made Running p text f s = λ l. absurd (true≢false (sym l.done))
+poke_made Stopped p text f s = named_made p text f s
+
+-- ---- programs that end or begin
+
+begun_before : (s : SessionState) → can_go_back s ≡ true → has_begun s.settings.program ≡ true
+begun_before s can =
+    (and_parts (has_begun s.settings.program) _ (and_parts (has_run s.board.run) _ can).1).0
+
+runs_before : (s : SessionState) → can_go_back s ≡ true → has_run s.board.run ≡ true
+runs_before s can = (and_parts (has_run s.board.run) _ can).0
+
+over_lasts : (o : Option Program) → has_begun (option_map (in_phase phase.Over) o) ≡ true → ⊥
+over_lasts None is = true≢false (sym is)
+over_lasts (Some p) is = true≢false (sym is)
+
+finish_made : (p : Performed) (code : ℕ) (s : SessionState) → Makes None s (finish_done p code s)
+finish_made (Ok (b, board)) code s =
+    λ l. absurd (over_lasts s.settings.program
+    (begun_before (finish_done (Ok (b, board)) code s).state l.after))
+finish_made (Err f) code s = λ l. absurd (true≢false (sym l.done))
+
+continue_made : (o : Option End) (s : SessionState) → Makes None s (resuming_from o command.Continue s)
+unfolding command_result
+continue_made None s = kept_made (λ _. body.Continued) _ follow.Continued s (kept_resume s.board.run None
+    s.board)
+continue_made (Some how) s = finish_made _ (exit_code how) s
+
+step_made : (o : Option End) (kind : StepKind) (granularity : Granularity) (s : SessionState)
+    → Makes None s (resuming_from o (command.Step kind granularity) s)
+unfolding command_result
+step_made None kind granularity s =
+    kept_made (λ _. body.Empty) _ follow.Continued s
+    (kept_resume s.board.run (Some (step_request kind granularity)) s.board)
+step_made (Some how) kind granularity s = finish_made _ (exit_code how) s
+
+reset_made : (s : SessionState) → Makes None s (resetting s)
+unfolding command_result
+reset_made s = λ l. absurd (over_lasts s.settings.program (begun_before (resetting s).state l.after))
+
+phase_made : (h : Phase) (p : Program) (s : SessionState) → p.phase ≡ h → s.settings.program ≡ Some p
+    → Makes None s (beginning_in h p (set_configured s))
+phase_made phase.Loaded p s is on =
+    λ l. absurd (true≢false (sym (begun_before s l.before) ∙ (ap has_begun on ∙ ap is_begun is)))
+phase_made phase.Begun p s is on = λ l. same s.board
+phase_made (phase.Held how) p s is on = λ l. same s.board
+phase_made phase.Over p s is on = λ l. same s.board
+
+configured_made : (o : Option Program) (s : SessionState) → s.settings.program ≡ o
+    → Makes None s (beginning_where o (set_configured s))
+configured_made None s on = λ l. same s.board
+configured_made (Some p) s on = phase_made p.phase p s refl on
+
+aliases_made : (run : RunState) (b' : Board) (f : FollowUp) (s : SessionState) → s.board.run ≡ run
+    → Makes None s (board_done (with_body (λ _. body.Empty) (without_run run (Ok (answer.BoardSet, b')))) f s)
+aliases_made NoRun b' f s is =
+    λ l. absurd (true≢false (sym (runs_before s l.before) ∙ ap has_run is))
+aliases_made Running b' f s is = λ l. absurd (true≢false (sym l.done))
+aliases_made Stopped b' f s is = λ l. absurd (true≢false (sym l.done))
+
+-- ---- commands of a board
+
+command_made : (c : DapCommand) (s : SessionState)
+    → Makes (command_input c s.board.machine.regs) s (commanding c s)
+unfolding command_result
+command_made command.Initialize s =
+    either s.settings.is_initialized None s _ _ (λ l. same s.board) (λ l. same s.board)
+command_made command.Attach s = λ l. same s.board
+command_made command.Disconnect s = λ l. same s.board
+command_made command.ConfigurationDone s = configured_made s.settings.program s refl
+command_made (command.SetBreakpoints path lines) s =
+    either (has_place path s.settings.points.lists) None s _ _
+    (λ l. kept_where (program_at path s.settings.program) lines _ s.board) (λ l. same s.board)
+command_made command.BoardReset s = reset_made s
+command_made command.Threads s = λ l. same s.board
+command_made (command.StackTrace start levels) s = shown_made (view.Frames start levels) s
+command_made (command.Scopes frame) s = shown_made (view.Scopes frame) s
+command_made (command.Variables reference start count) s = shown_made (view.Variables reference start count) s
+command_made command.Continue s = continue_made (end_of s.settings.program) s
+command_made (command.Step kind granularity) s = step_made (end_of s.settings.program) kind granularity s
+command_made command.Pause s =
+    kept_made (λ _. body.Empty) (result_of event.Pause s.board) (follow.Stopped (AtBoard ByPause)) s
+    (kept_pause s.board.is_attached s.board.run s.board)
+command_made (command.Disassemble address offset instruction_offset count) s =
+    shown_made (view.Code (first_line s.board.machine address offset instruction_offset) count) s
+command_made (command.Source path) s = shown_made (view.Source path) s
+command_made (command.DumpCell code) s =
+    kept_made (λ _. body.SourcePath (cell_path code))
+    (result_of (event.Dump (cell_path code) code) s.board) follow.Nothing s
+    (kept_dump (cell_path code) code s.board)
+command_made command.DebugInfo s = shown_made view.Info s
+command_made command.InspectVariables s = shown_made (view.Variables 1 0 0) s
+command_made (command.SetVariable reference name value) s =
+    poke_made s.board.run (place_named reference name) value _ s
+command_made (command.BoardSwitches value) s =
+    event_made (λ _. body.Empty) (result_of (event.Switches value) s.board) _ s (input.Switches value) refl
+command_made (command.BoardPress vector) s =
+    event_made (λ _. body.Empty) (result_of (event.Press vector) s.board) _ s (input.Press vector) refl
+command_made (command.BoardType text) s =
+    event_made (λ _. body.Empty) (result_of (event.Typed (latin_bytes text)) s.board) _ s
+    (input.Typed (latin_bytes text)) refl
+command_made (command.BoardAliases aliases) s = aliases_made s.board.run _ (change_follow s) s refl
+
+-- ---- evaluations
+
+value_made : (r : Result Text EvaluateFault) (s : SessionState) → Makes None s (value_told r s)
+value_made (Ok text) s = λ l. same s.board
+value_made (Err f) s = λ l. same s.board
+
+switches_made : (o : Option ℕ) (expression : Text) (s : SessionState)
+    → Makes (prompt_input (byte_command (λ value. command.BoardSwitches value) o) s.board.machine.regs) s
+    (prompting (byte_command (λ value. command.BoardSwitches value) o) expression s)
+unfolding command_result
+switches_made None expression s = λ l. same s.board
+switches_made (Some n) expression s =
+    reply_made (λ _. body.Empty) (result_of (event.Switches n) s.board) s (input.Switches n) refl
+
+press_made : (o : Option ℕ) (expression : Text) (s : SessionState)
+    → Makes (prompt_input (byte_command (λ vector. command.BoardPress vector) o) s.board.machine.regs) s
+    (prompting (byte_command (λ vector. command.BoardPress vector) o) expression s)
+unfolding command_result
+press_made None expression s = λ l. same s.board
+press_made (Some n) expression s =
+    reply_made (λ _. body.Empty) (result_of (event.Press n) s.board) s (input.Press n) refl
+
+type_made : (text : Text) (s : SessionState)
+    → Makes (Some (input.Typed (latin_bytes text))) s
+    (command_reply (command_result (command.BoardType text) s.board) s)
+unfolding command_result
+type_made text s =
+    reply_made (λ _. body.Empty) (result_of (event.Typed (latin_bytes text)) s.board) s
+    (input.Typed (latin_bytes text)) refl
+
+prompt_made : (switches press line : Option Text) (expression : Text) (s : SessionState)
+    → Makes (prompt_input (command_with switches press line) s.board.machine.regs) s
+    (prompting (command_with switches press line) expression s)
+prompt_made (Some n) press line expression s = switches_made (byte_spelled n) expression s
+prompt_made None (Some n) line expression s = press_made (byte_spelled n) expression s
+prompt_made None None (Some line) expression s = type_made (line ++ codes "\n") s
+prompt_made None None None expression s = value_made (expression_text s.board expression) s
+
+evaluated_made : (expression : Text) (c : EvaluateContext) (s : SessionState)
+    → Makes (input_of (asked.Editor (editor.Evaluate expression c)) s.board.machine.regs) s
+    (evaluating expression c s)
+evaluated_made expression context.Repl s =
+    prompt_made (behind (codes "switches ") expression) (behind (codes "press ") expression)
+    (behind (codes "type ") expression) expression s
+evaluated_made expression context.Other s = value_made (expression_text s.board expression) s
+
+-- ---- commands of editors
+
+written_made : (o : Option ℕ) (bytes : Bytes) (s : SessionState)
+    → Makes (bytes_input o bytes) s (writing_from o bytes s)
+written_made None bytes s = λ l. absurd (true≢false (sym l.done))
+written_made (Some start) bytes s = λ l. record { machine = refl; past = refl; trace = refl }
+
+writing_made : (address : ℕ) (offset : SignedOffset) (bytes : Bytes) (s : SessionState)
+    → Makes (bytes_input (address_at address offset) bytes) s (writing address offset bytes s)
+writing_made address offset bytes s =
+    either (is_stopped s.board.run) (bytes_input (address_at address offset) bytes) s _ _
+    (written_made (address_at address offset) bytes s) (λ l. absurd (true≢false (sym l.done)))
+
+goto_made : (target : ℕ) (s : SessionState)
+    → Makes (Some (input.Registers (record s.board.machine.regs { pc = target }))) s (going_to target s)
+goto_made target s =
+    either (is_stopped s.board.run) (Some (input.Registers (record s.board.machine.regs {
+      pc = target;
+    }))) s _ _
+    (λ l. record { machine = refl; past = refl; trace = refl }) (λ l. absurd (true≢false (sym l.done)))
+
+explained_made : (o : Option UndefinedOpcode) (s : SessionState) → Makes None s (explaining o s)
+explained_made None s = λ l. same s.board
+explained_made (Some undefined) s = λ l. same s.board
+
+memory_made : (c : EditorCommand) (s : SessionState)
+    → Makes (input_of (asked.Editor c) s.board.machine.regs) s (editing_memory c s)
+memory_made (editor.ReadMemory address offset count) s = λ l. same s.board
+memory_made (editor.WriteMemory address offset bytes) s = writing_made address offset bytes s
+memory_made (editor.Disassemble address offset instruction_offset count) s = λ l. same s.board
+memory_made (editor.GotoTargets path line) s = λ l. same s.board
+memory_made (editor.Goto target) s = goto_made target s
+memory_made other s = λ l. absurd (true≢false (sym l.done))
+
+edit_made : (c : EditorCommand) (s : SessionState)
+    → Makes (input_of (asked.Editor c) s.board.machine.regs) s (editing c s)
+edit_made (editor.Initialize supported) s =
+    either s.settings.is_initialized None s _ _ (λ l. same s.board) (λ l. same s.board)
+edit_made editor.Terminate s =
+    λ l. absurd (over_lasts s.settings.program (begun_before (terminating s).state l.after))
+edit_made (editor.SetFunctionBreakpoints names) s =
+    λ l. kept_labels s.settings.program names s.settings.points s.board
+edit_made editor.ExceptionInfo s = explained_made (exception_of s.settings.program) s
+edit_made (editor.Evaluate expression c) s = evaluated_made expression c s
+edit_made (editor.SetExceptionBreakpoints filters) s = λ l. same s.board
+edit_made editor.LoadedSources s = λ l. same s.board
+edit_made other s = memory_made other s
+
+-- ---- all requests
+
+abbrev MakesBy : RequestContent → SessionState → Turn → Type 0
+MakesBy a s t = RunLasts s t
+    → SameParts (after_input_if (input_of a s.board.machine.regs) s.board) t.state.board
+
+made_asking : (a : RequestContent) (found : Option FileText) (s : SessionState) → asks_to_load a ≡ false
+    → MakesBy a s (asking a found s)
+made_asking (asked.Editor (editor.Launch l)) found s loads = absurd (true≢false loads)
+made_asking (asked.Editor editor.Restart) found s loads = absurd (true≢false loads)
+made_asking (asked.Board c) found s loads = command_made c s
+made_asking (asked.Faulty f) found s loads = λ l. same s.board
+made_asking (asked.Editor c) found s loads = edit_made c s
+
+made_unless : (o : Option Text) (a : RequestContent) (found : Option FileText) (s : SessionState)
+    → asks_to_load a ≡ false → MakesBy a s (asking_unless o a found s)
+made_unless (Some text) a found s loads = λ l. absurd (true≢false (sym l.done))
+made_unless None a found s loads = made_asking a found s loads
+
+pub made_turn : (a : RequestContent) (found : Option FileText) (s : SessionState) → asks_to_load a ≡ false
+    → MakesBy a s (turn a found s)
+unfolding turn
+made_turn a found s loads = λ l.
+    made_unless (objection a s) a found s loads (record { before = l.before; after = l.after; done = l.done })

@@ -1,0 +1,91 @@
+-- Searches of a session's run, and moments that are saved.
+use Rattle.std.proofs.Common.{◌≡◌, ℕ, List, Bool, true, false, Some, None, Result, Ok, Err}
+use Rattle.std.proofs.Common.{sym, ap, subst}
+use Rattle.std.specs.Result.{OnOk, OnErr}
+use Rattle.lab_core.specs.Board.{Board}
+use Rattle.lab_core.specs.Labs.{LabState, RepresentsBoard}
+use Rattle.dap_history.specs.declared.goal.Goal.{Goal}
+use Rattle.dap_history.specs.declared.input.Recorded.{Recorded}
+use Rattle.dap_history.specs.Runs.{board_at, after_rewind}
+use Rattle.dap_history.specs.Histories.{HistoryState, IsHistoryOf, HasRunOf, KeepsHistory, Saves, is_due}
+use Rattle.dap_history.specs.Searches.{SearchState, SearchedOn}
+use Rattle.dap_session.specs.States.{SessionState, with_board}
+use Rattle.dap_session.specs.Represents.{SessionFields, RepresentsSession}
+use Rattle.dap_session.specs.Rewinds.{IsRunAt, BeginsSearch, SearchedFurther, after_release, rewound}
+use Rattle.dap_session.specs.declared.settings.SessionSettings.{SessionSettings}
+
+-- ---- moments that are saved
+
+saved_log : (b : Bool) (count : ℕ) (old new : HistoryState) → Saves b count old new → new.log ≡ old.log
+saved_log true count old new saves = ap (λ (h : HistoryState). h.log) saves.1
+saved_log false count old new saves = ap (λ (h : HistoryState). h.log) saves
+
+kept_log : {E : Type 0} (b : Bool) (count : ℕ) (old new : HistoryState) (r : Result (Unit {0}) E)
+    → OnOk r (Saves b count old new) → OnErr r (new ≡ old) → new.log ≡ old.log
+kept_log b count old new (Ok done) saves same = saved_log b count old new saves
+kept_log b count old new (Err lack) saves same = ap (λ (h : HistoryState). h.log) same
+
+pub history_kept : {E : Type 0} (start : Board) (count : ℕ) (v : SessionFields) (lab : LabState)
+    (old new : HistoryState)
+    (r : Result (Unit {0}) E) → lab ≡ v.lab → IsHistoryOf start old
+    → IsRunAt start old count v
+    → (HasRunOf (board_at start old.log count) lab → IsHistoryOf start new)
+    → OnOk r (Saves (is_due old.moments count) count old new) → OnErr r (new ≡ old)
+    → KeepsHistory start old new
+history_kept start count v lab old new r view history at keeps saves same = record {
+  history = keeps (record {
+    now = at.s.board;
+    represents =
+        subst (λ (l : LabState). RepresentsBoard l at.s.board) (sym view) at.represents.board;
+    machine = at.parts.machine;
+    past = at.parts.past;
+    trace = at.parts.trace;
+  });
+  log = kept_log (is_due old.moments count) count old new r saves same;
+}
+
+-- ---- searches
+
+pub board_in : (v : SessionFields) (s : SessionState) (lab : LabState) → lab ≡ v.lab → RepresentsSession v s
+    → RepresentsBoard lab s.board
+board_in v s lab same represents =
+    subst (λ (l : LabState). RepresentsBoard l s.board) (sym same) represents.board
+
+released_at : (was : Board) (s : SessionState) (new : SessionFields) (lab : LabState)
+    (settings : SessionSettings) → new ≡ record { lab = lab; settings = after_release settings }
+    → settings ≡ s.settings → RepresentsBoard lab (after_rewind was s.board)
+    → RepresentsSession new (rewound was s)
+released_at was s new lab settings is same board =
+    subst (λ (v : SessionFields). RepresentsSession v (rewound was s)) (sym is)
+    (record { board = board; settings = ap after_release same })
+
+pub begins_so : (goal : Goal) (start : Board) (log : List Recorded) (count : ℕ) (s : SessionState)
+    (search : SearchState) (new : SessionFields) (lab : LabState) (settings : SessionSettings)
+    → new ≡ record { lab = lab; settings = after_release settings } → settings ≡ s.settings
+    → SearchedOn start log s.board goal count None search lab
+    → BeginsSearch goal start log count s search new
+begins_so goal start log count s search new lab settings is same searched = record {
+  search = searched.0;
+  represents = released_at (board_at start log count) s new lab settings is same searched.1;
+}
+
+pub found_so : (goal : Goal) (start : Board) (log : List Recorded) (n m : ℕ) (s : SessionState)
+    (search : SearchState) (new : SessionFields) (lab : LabState) (settings : SessionSettings)
+    → new ≡ record { lab = lab; settings = after_release settings } → settings ≡ s.settings
+    → SearchedOn start log s.board goal n (Some m) search lab
+    → SearchedFurther goal start log n s (Some m) search new
+found_so goal start log n m s search new lab settings is same searched =
+    (searched.0, released_at (board_at start log m) s new lab settings is same searched.1)
+
+pub goes_on_so : (goal : Goal) (start : Board) (log : List Recorded) (n : ℕ) (s : SessionState)
+    (search : SearchState) (new : SessionFields) (lab : LabState) (settings : SessionSettings)
+    → new ≡ record { lab = lab; settings = settings } → settings ≡ s.settings
+    → SearchedOn start log s.board goal n None search lab
+    → SearchedFurther goal start log n s None search new
+goes_on_so goal start log n s search new lab settings is same searched = (
+  searched.0,
+  subst (λ (v : SessionFields). RepresentsSession v (with_board (after_rewind (board_at start log n)
+      s.board) s))
+      (sym is)
+      (record { board = searched.1; settings = same }),
+)

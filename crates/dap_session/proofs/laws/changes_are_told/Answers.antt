@@ -1,5 +1,0 @@
-use Rattle.dap_session.proofs.ChangeLemmas.{told_turn}
-use Rattle.dap_session.proofs.laws.changes_are_told.Goals as goal
-
-pub returns : goal.returns
-returns c = told_turn

@@ -1,5 +1,0 @@
-use Rattle.dap_session.proofs.LawLemmas.{kept_look}
-use Rattle.dap_session.proofs.laws.looks_keep_board.Goals as goal
-
-pub returns : goal.returns
-returns c = kept_look

@@ -1,5 +1,0 @@
-use Rattle.dap_session.proofs.ChangeLemmas.{look_turn}
-use Rattle.dap_session.proofs.laws.looks_tell_nothing.Goals as goal
-
-pub returns : goal.returns
-returns c = look_turn

@@ -1,5 +1,0 @@
-use Rattle.dap_session.proofs.RefusalLemmas.{refused_turn}
-use Rattle.dap_session.proofs.laws.refusals_leave_all.Goals as goal
-
-pub returns : goal.returns
-returns c = refused_turn

@@ -1,5 +1,0 @@
-use Rattle.dap_session.proofs.StopLemmas.{stops_told}
-use Rattle.dap_session.proofs.laws.stops_are_told.Goals as goal
-
-pub returns : goal.returns
-returns c = stops_told

@@ -1,0 +1,85 @@
+-- A session whose run goes back.
+use Rattle.std.specs.Prelude.{◌≡◌, ℕ, List, Bool, true, false, ◌&&◌, Option, Some, None, option_map}
+use Rattle.lab_core.specs.Board.{Board}
+use Rattle.dap_history.specs.declared.goal.Goal.{Goal}
+use Rattle.dap_history.specs.declared.input.Recorded.{Recorded}
+use Rattle.dap_history.specs.Histories.{HistoryState, IsHistoryOf, KeepsHistory}
+use Rattle.dap_history.specs.Searches.{SearchState, IsSearchOf, goal_below}
+use Rattle.dap_history.specs.Runs.{board_at, after_rewind}
+use Rattle.dap_launch.specs.declared.program.Program.{Program}
+use Rattle.dap_launch.specs.Lives.{released_program}
+use Rattle.dap_session.specs.States.{SessionState, with_board}
+use Rattle.dap_session.specs.Turns.{Turn}
+use Rattle.dap_session.specs.declared.settings.SessionSettings.{SessionSettings}
+use Rattle.dap_inputs.specs.Inputs.{is_success}
+use Rattle.dap_session.specs.Laws.{SameParts, has_run, has_begun}
+use Rattle.dap_session.specs.Represents.{SessionFields, RepresentsSession}
+
+abbrev pub is_debugged : Option Program → Bool
+is_debugged None = false
+is_debugged (Some p) = p.launch.is_debugged
+
+-- a run is there, of a program that has begun and is debugged: it can go back
+abbrev pub can_go_back : SessionState → Bool
+can_go_back s = has_run s.board.run && (has_begun s.settings.program && is_debugged s.settings.program)
+
+-- a request was carried out, and the run lasts through it
+pub record RunLasts (s : SessionState) (t : Turn) : Type 0 where
+  pub before : can_go_back s ≡ true
+  pub after : can_go_back t.state ≡ true
+  pub done : is_success t.outcome ≡ true
+
+-- a run that was held at its end, or waited, can go on
+abbrev pub after_release : SessionSettings → SessionSettings
+after_release t = record t { program = option_map released_program t.program; waits = false }
+
+-- the run is that of this board, and stopped there
+abbrev pub rewound : Board → SessionState → SessionState
+rewound was s = record { board = after_rewind was s.board; settings = after_release s.settings }
+
+-- The session's run is the one of this history after so many steps: machine, devices and trace are the same.
+pub record IsRunAt (start : Board) (h : HistoryState) (count : ℕ) (v : SessionFields) : Type 0 where
+  pub s : SessionState
+  pub represents : RepresentsSession v s
+  pub parts : SameParts (board_at start h.log count) s.board
+
+-- the history of a run stays that, and its inputs are the same
+abbrev pub KeepsHistories : HistoryState → HistoryState → Type 0
+KeepsHistories old new = (start : Board) → IsHistoryOf start old → KeepsHistory start old new
+
+-- so it is for each run of a session with this history
+abbrev pub ForEachRun : HistoryState → SessionFields → (Board → SessionState → Type 0) → Type 0
+ForEachRun h v P = (start : Board) (s : SessionState) → IsHistoryOf start h → RepresentsSession v s → P
+    start s
+
+-- the search is of a session's run with this history
+pub record IsSearched (h : HistoryState) (search : SearchState) (v : SessionFields) : Type 0 where
+  pub start : Board
+  pub s : SessionState
+  pub goal : Goal
+  pub n : ℕ
+  pub history : IsHistoryOf start h
+  pub represents : RepresentsSession v s
+  pub is : IsSearchOf start h.log s.board goal n search
+
+-- a search began where such a run is, and holds it there
+pub record BeginsSearch (goal : Goal) (start : Board) (log : List Recorded) (count : ℕ) (s : SessionState)
+    (v : SearchState) (new : SessionFields) : Type 0 where
+  pub search : IsSearchOf start log s.board goal count v
+  pub represents : RepresentsSession new (rewound (board_at start log count) s)
+
+-- A search went on: the run is held where it began, or it is put to the count that was found.
+abbrev pub SearchedFurther : Goal → Board → List Recorded → ℕ → SessionState → Option ℕ → SearchState
+    → SessionFields → Type 0
+SearchedFurther goal start log n s None search new = IsSearchOf start log s.board goal n search
+    × RepresentsSession new (with_board (after_rewind (board_at start log n) s.board) s)
+SearchedFurther goal start log n s (Some m) search new = (m ≡ goal_below goal start log s.board n)
+    × RepresentsSession new (rewound (board_at start log m) s)
+
+-- so it is for each search of a session's run that goes on
+abbrev pub ForEachSearch : HistoryState → SearchState → SessionFields
+    → (Board → SessionState → Goal → ℕ → Type 0)
+    → Type 0
+ForEachSearch h search v P =
+    (start : Board) (s : SessionState) (goal : Goal) (n : ℕ) → IsHistoryOf start h → RepresentsSession v s
+    → IsSearchOf start h.log s.board goal n search → P start s goal n
