@@ -14,9 +14,14 @@ PLAIN_TYPES = {"array", "boolean", "integer", "null", "number", "object", "strin
 
 def faults(message):
     """The violations of the schema in a request, a response or an event."""
-    whole = {"$ref": "#/definitions/" + name_of(message), "definitions": definitions()}
-    found = jsonschema.Draft4Validator(whole).iter_errors(message)
+    found = validator(name_of(message)).iter_errors(message)
     return [f"{'.'.join(map(str, fault.absolute_path)) or 'message'}: {fault.message}" for fault in found]
+
+
+@functools.lru_cache
+def validator(name):
+    """Checks messages of this name."""
+    return jsonschema.Draft4Validator({"$ref": "#/definitions/" + name, "definitions": definitions()})
 
 
 def name_of(message):

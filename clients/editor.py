@@ -117,6 +117,16 @@ class Editor:
         self.send(command, arguments)
         return self.response()
 
+    def ask_amid(self, command, **arguments):
+        """Sends a request that must succeed while a program runs. Returns the events before its response."""
+        self.send(command, arguments)
+        events = []
+        while (message := self.next())["type"] != "response":
+            events.append((message["event"], message.get("body")))
+        if not message["success"]:
+            raise AssertionError(message)
+        return events
+
     def response(self):
         """The next response. Messages before it belong to a run in progress."""
         while (message := self.next())["type"] != "response":
@@ -255,6 +265,23 @@ class Session(unittest.TestCase):
 
     def editor(self, *words):
         return self.enterContext(Editor(*words))
+
+    def converse(self, path, conversation):
+        """A whole session to the byte: each request, and all that must be said then. PATH in it is the program's path."""
+        with Editor() as editor:
+            for asked, *said in conversation:
+                editor.say(framed(asked.replace("PATH", path).encode()))
+                wanted = b"".join(framed(message.replace("PATH", path).encode()) for message in said)
+                self.assertEqual(read_exactly(editor.process.stdout, len(wanted)), wanted)
+            self.assertEqual(editor.process.wait(5), 0)
+            self.assertEqual((editor.process.stdout.read(), editor.process.stderr.read()), (b"", b""))
+
+
+def read_exactly(stream, size):
+    data = b""
+    while len(data) < size and (piece := stream.read(size - len(data))):
+        data += piece
+    return data
 
 
 def free_port():

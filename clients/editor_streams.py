@@ -29,13 +29,15 @@ PROGRAMS = {
 COMMANDS = (
     "initialize", "launch", "configurationDone", "restart", "terminate", "setBreakpoints", "setFunctionBreakpoints",
     "setExceptionBreakpoints", "loadedSources", "threads", "stackTrace", "scopes", "variables", "setVariable", "continue", "next",
-    "stepIn", "stepOut", "pause", "source", "evaluate", "readMemory", "writeMemory", "disassemble", "attach", "boardSwitches",
-    "boardPress", "boardType", "boardReset", "boardAliases", "dumpCell", "debugInfo", "inspectVariables", "nothing", "",
+    "stepIn", "stepOut", "stepBack", "reverseContinue", "pause", "source", "evaluate", "readMemory", "writeMemory", "disassemble",
+    "attach", "boardSwitches", "boardPress", "boardType", "boardReset", "boardAliases", "dumpCell", "debugInfo",
+    "inspectVariables", "nothing", "",
 )
 
 EXPRESSIONS = (
     "A", "M", "pc", "SHOW", "START+1", "$", "1/0", "(" * 70 + "1" + ")" * 70, "'AB'", "NOT 1", "", " ", ";", "1\n2", "\u20ac",
-    "\x00", "type hello", "type ", "press 1", "press 9", "switches 255", "switches 1000", "A" * 200,
+    "\x00", "back", "back 3", "back start", "back 99999999999", "back x", "type hello", "type ", "press 1", "press 9",
+    "switches 255", "switches 1000", "A" * 200,
 )
 
 # Values to replace any argument.

@@ -201,7 +201,8 @@ class Requests(Session):
         for command, arguments, told in (
             ("attach", {}, "attach is not supported: launch a program"),
             ("nothing", {}, "unknown command"), ("", {}, "unknown command"), ("Threads", {}, "unknown command"),
-            ("modules", {}, "unknown command"), ("stepBack", {"threadId": 1}, "unknown command"),
+            ("modules", {}, "unknown command"), ("stepBack", {"threadId": 1}, "no program is stopped"),
+            ("reverseContinue", {"threadId": 1}, "no program is stopped"),
             ("goto", {"threadId": 1, "targetId": 1}, "no program is stopped"),
             ("stackTrace", {"threadId": 1}, "no program is stopped"), ("continue", {"threadId": 1}, "no program is stopped"),
             ("next", {"threadId": 1}, "no program is stopped"), ("scopes", {"frameId": 1}, "no program is stopped"),

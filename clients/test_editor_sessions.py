@@ -5,8 +5,8 @@ import statistics
 import time
 import unittest
 
-from dap_wire import CLIENT, framed
-from editor import Editor, Session, printed
+from dap_wire import CLIENT
+from editor import Session, printed
 
 # Lines of examples/count.asm: CALL SHOW, the line after it, and the routine's lines.
 CALL, AFTER_CALL, SHOW, ADD, RETURN = 5, 6, 10, 11, 13
@@ -75,7 +75,7 @@ CAPABILITIES = {
         "supportsConfigurationDoneRequest", "supportsDisassembleRequest", "supportsEvaluateForHovers",
         "supportsExceptionInfoRequest", "supportsFunctionBreakpoints", "supportsGotoTargetsRequest",
         "supportsLoadedSourcesRequest", "supportsReadMemoryRequest", "supportsRestartRequest", "supportsSetVariable",
-        "supportsSteppingGranularity", "supportsTerminateRequest", "supportsWriteMemoryRequest"), True),
+        "supportsStepBack", "supportsSteppingGranularity", "supportsTerminateRequest", "supportsWriteMemoryRequest"), True),
     "exceptionBreakpointFilters": [
         {"filter": "undefined", "label": "Undefined opcodes", "default": True},
         {"filter": "halt", "label": "HLT", "default": False}]}
@@ -96,7 +96,7 @@ CONVERSATION = (
      '"supportsDisassembleRequest":true,"supportsEvaluateForHovers":true,"supportsExceptionInfoRequest":true,'
      '"supportsFunctionBreakpoints":true,"supportsGotoTargetsRequest":true,"supportsLoadedSourcesRequest":true,'
      '"supportsReadMemoryRequest":true,"supportsRestartRequest":true,"supportsSetVariable":true,'
-     '"supportsSteppingGranularity":true,'
+     '"supportsStepBack":true,"supportsSteppingGranularity":true,'
      '"supportsTerminateRequest":true,"supportsWriteMemoryRequest":true},"command":"initialize","request_seq":1,"seq":1,'
      '"success":true,"type":"response"}'),
     ('{"seq":2,"type":"request","command":"launch","arguments":{"program":"PATH"}}',
@@ -171,11 +171,70 @@ HELD = (
 )
 
 
-def read_exactly(stream, size):
-    data = b""
-    while len(data) < size and (piece := stream.read(size - len(data))):
-        data += piece
-    return data
+# A session with examples/count.asm in which the run goes back from its end, is changed there, and goes on.
+BACKWARD = (
+    CONVERSATION[0],
+    ('{"seq":2,"type":"request","command":"launch","arguments":{"program":"PATH","stopAtEnd":true}}',
+     '{"body":{},"command":"launch","request_seq":2,"seq":2,"success":true,"type":"response"}',
+     '{"event":"initialized","seq":3,"type":"event"}'),
+    ('{"seq":3,"type":"request","command":"configurationDone"}',
+     '{"body":{},"command":"configurationDone","request_seq":3,"seq":4,"success":true,"type":"response"}',
+     '{"body":{"category":"stdout","output":"321"},"event":"output","seq":5,"type":"event"}',
+     '{"body":{"allThreadsStopped":true,"description":"halted","reason":"step","threadId":1},"event":"stopped","seq":6,'
+     '"type":"event"}'),
+    ('{"seq":4,"type":"request","command":"stepBack","arguments":{"threadId":1}}',
+     '{"body":{},"command":"stepBack","request_seq":4,"seq":7,"success":true,"type":"response"}',
+     '{"body":{"allThreadsStopped":true,"reason":"step","threadId":1},"event":"stopped","seq":8,"type":"event"}'),
+    ('{"seq":5,"type":"request","command":"stepBack","arguments":{"threadId":1,"granularity":"instruction"}}',
+     '{"body":{},"command":"stepBack","request_seq":5,"seq":9,"success":true,"type":"response"}',
+     '{"body":{"allThreadsStopped":true,"reason":"step","threadId":1},"event":"stopped","seq":10,"type":"event"}'),
+    ('{"seq":6,"type":"request","command":"setBreakpoints","arguments":{"source":{"path":"PATH"},"breakpoints":[{"line":10}]}}',
+     '{"body":{"breakpoints":[{"id":257,"line":10,"verified":true}]},"command":"setBreakpoints","request_seq":6,"seq":11,'
+     '"success":true,"type":"response"}'),
+    ('{"seq":7,"type":"request","command":"reverseContinue","arguments":{"threadId":1}}',
+     '{"body":{},"command":"reverseContinue","request_seq":7,"seq":12,"success":true,"type":"response"}',
+     '{"body":{"allThreadsStopped":true,"reason":"breakpoint","threadId":1},"event":"stopped","seq":13,"type":"event"}'),
+    ('{"seq":8,"type":"request","command":"stackTrace","arguments":{"threadId":1}}',
+     '{"body":{"stackFrames":['
+     '{"column":1,"id":1,"instructionPointerReference":"0x010b","line":10,"name":"SHOW","source":{"path":"PATH"}},'
+     '{"column":1,"id":2,"instructionPointerReference":"0x0103","line":5,"name":"main","source":{"path":"PATH"}}],'
+     '"totalFrames":2},"command":"stackTrace","request_seq":8,"seq":14,"success":true,"type":"response"}'),
+    # Three steps earlier is the jump.
+    ('{"seq":9,"type":"request","command":"evaluate","arguments":{"expression":"back 3","context":"repl"}}',
+     '{"body":{"result":"ok","variablesReference":0},"command":"evaluate","request_seq":9,"seq":15,"success":true,'
+     '"type":"response"}',
+     '{"body":{"allThreadsStopped":true,"reason":"step","threadId":1},"event":"stopped","seq":16,"type":"event"}'),
+    ('{"seq":10,"type":"request","command":"evaluate","arguments":{"expression":"back 0","context":"repl"}}',
+     '{"command":"evaluate","message":"a number of steps must follow, or the word start","request_seq":10,"seq":17,'
+     '"success":false,"type":"response"}'),
+    ('{"seq":11,"type":"request","command":"setVariable","arguments":{"variablesReference":1,"name":"B","value":"2"}}',
+     '{"body":{"value":"002H"},"command":"setVariable","request_seq":11,"seq":18,"success":true,"type":"response"}',
+     '{"body":{"category":"console","output":"what came after step 16 is forgotten\\n"},"event":"output","seq":19,"type":"event"}'),
+    ('{"seq":12,"type":"request","command":"continue","arguments":{"threadId":1}}',
+     '{"body":{"allThreadsContinued":true},"command":"continue","request_seq":12,"seq":20,"success":true,"type":"response"}',
+     '{"body":{"allThreadsContinued":true,"threadId":1},"event":"continued","seq":21,"type":"event"}',
+     '{"body":{"allThreadsStopped":true,"reason":"breakpoint","threadId":1},"event":"stopped","seq":22,"type":"event"}'),
+    ('{"seq":13,"type":"request","command":"evaluate","arguments":{"expression":"back start","context":"repl"}}',
+     '{"body":{"result":"ok","variablesReference":0},"command":"evaluate","request_seq":13,"seq":23,"success":true,'
+     '"type":"response"}',
+     '{"body":{"allThreadsStopped":true,"reason":"entry","threadId":1},"event":"stopped","seq":24,"type":"event"}'),
+    ('{"seq":14,"type":"request","command":"reverseContinue","arguments":{"threadId":1}}',
+     '{"command":"reverseContinue","message":"the run begins here","request_seq":14,"seq":25,"success":false,"type":"response"}'),
+    ('{"seq":15,"type":"request","command":"setBreakpoints","arguments":{"source":{"path":"PATH"},"breakpoints":[]}}',
+     '{"body":{"breakpoints":[]},"command":"setBreakpoints","request_seq":15,"seq":26,"success":true,"type":"response"}'),
+    # The digits before the change were told.
+    ('{"seq":16,"type":"request","command":"continue","arguments":{"threadId":1}}',
+     '{"body":{"allThreadsContinued":true},"command":"continue","request_seq":16,"seq":27,"success":true,"type":"response"}',
+     '{"body":{"allThreadsContinued":true,"threadId":1},"event":"continued","seq":28,"type":"event"}',
+     '{"body":{"category":"stdout","output":"21"},"event":"output","seq":29,"type":"event"}',
+     '{"body":{"allThreadsStopped":true,"description":"halted","reason":"step","threadId":1},"event":"stopped","seq":30,'
+     '"type":"event"}'),
+    ('{"seq":17,"type":"request","command":"reverseContinue","arguments":{"threadId":1}}',
+     '{"body":{},"command":"reverseContinue","request_seq":17,"seq":31,"success":true,"type":"response"}',
+     '{"body":{"allThreadsStopped":true,"reason":"entry","threadId":1},"event":"stopped","seq":32,"type":"event"}'),
+    ('{"seq":18,"type":"request","command":"disconnect","arguments":{}}',
+     '{"body":{},"command":"disconnect","request_seq":18,"seq":33,"success":true,"type":"response"}'),
+)
 
 
 class Whole(Session):
@@ -185,14 +244,8 @@ class Whole(Session):
     def test_a_run_that_is_held_at_its_end_to_the_byte(self):
         self.converse(self.program(RUNS_AWAY), HELD)
 
-    def converse(self, path, conversation):
-        with Editor() as editor:
-            for asked, *said in conversation:
-                editor.say(framed(asked.replace("PATH", path).encode()))
-                wanted = b"".join(framed(message.replace("PATH", path).encode()) for message in said)
-                self.assertEqual(read_exactly(editor.process.stdout, len(wanted)), wanted)
-            self.assertEqual(editor.process.wait(5), 0)
-            self.assertEqual((editor.process.stdout.read(), editor.process.stderr.read()), (b"", b""))
+    def test_a_run_that_goes_back_to_the_byte(self):
+        self.converse(self.count(), BACKWARD)
 
     def test_what_the_debugger_can(self):
         self.assertEqual(self.editor().initialize(), CAPABILITIES)

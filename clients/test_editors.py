@@ -35,6 +35,17 @@ registers: 033H 009H 000H 000H 000H 000H 000H 00000H 00107H
 lab80-dap-run: SHOW, line 10, cursor in line 10
 B lab80: 001H
 lab80-dap-run: main, line 10, cursor in line 10
+lab80-dap-step-back: main, line 8, cursor in line 8
+lab80-dap-step-back: main, line 7, cursor in line 7
+lab80-dap-step-back: main, line 6, cursor in line 6
+lab80-dap-step-back: main, line 5, cursor in line 5
+back 2 lab80: ok
+back 2: main, line 7, cursor in line 7
+lab80-dap-reverse: SHOW, line 10, cursor in line 10
+lab80-dap-reverse: main, line 3, cursor in line 3
+back lab80: the run begins here
+dap-next: main, line 4, cursor in line 4
+lab80-dap-run: main, line 10, cursor in line 10
 ended: terminated
 output: "39"
 """

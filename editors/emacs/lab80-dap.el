@@ -69,10 +69,21 @@ Its answer is shown, or why it refuses."
   (interactive)
   (lab80-dap--ask "pause" :threadId 1))
 
+(defun lab80-dap-step-back ()
+  "Go back to the line before, and out of a routine to its call."
+  (interactive)
+  (lab80-dap--ask "stepBack" :threadId 1))
+
+(defun lab80-dap-reverse ()
+  "Go back to a breakpoint, or else to the program's start."
+  (interactive)
+  (lab80-dap--ask "reverseContinue" :threadId 1))
+
 (defun lab80-dap-ask (words)
   "Ask the debugger in WORDS.
 `switches 5', `press 1' and `type TEXT' work the board, also while the
-program runs; anything else is an expression."
+program runs; `back', `back 3' and `back start' go back where it is
+stopped; anything else is an expression."
   (interactive "slab80: ")
   (lab80-dap--ask "evaluate" :expression words :context "repl"))
 
@@ -91,6 +102,8 @@ hexadecimal digits; VALUE is a number of the assembler."
     (define-key map [f6] #'lab80-dap-pause)
     (define-key map [f7] #'lab80-dap-ask)
     (define-key map [S-f7] #'lab80-dap-set)
+    (define-key map [f8] #'lab80-dap-step-back)
+    (define-key map [S-f8] #'lab80-dap-reverse)
     (define-key map [f9] #'dap-breakpoint-toggle)
     (define-key map [f10] #'dap-next)
     (define-key map [f11] #'dap-step-in)

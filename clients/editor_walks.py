@@ -1,0 +1,363 @@
+"""Random debugging sessions that go forward and back, compared with a plain model of the board after each request."""
+import base64
+import copy
+import time
+
+import plain_board
+import plain_far
+import plain_programs
+from plain_debugger import PlainDebugger
+
+# The memory that is compared: program, data and stack.
+COMPARED = 0x400
+
+NOWHERE = "the run begins here"
+
+
+class Walk:
+    """A random session with a small random program."""
+
+    def __init__(self, editor, path, chance):
+        self.editor, self.path, self.chance = editor, path, chance
+        self.program = plain_programs.made(chance)
+        self.typed, self.switches = chance.choice(("", "ab\n")), chance.randrange(256)
+        # What the debugger has told since the last comparison, and what it must have told.
+        self.events, self.printed, self.forgotten, self.plain, self.is_over = [], b"", [], None, False
+
+    def begin(self):
+        with open(self.path, "w", encoding="ascii") as file:
+            file.write(self.program.text)
+        self.editor.launch(self.path, stopOnEntry=True, stopAtEnd=True, input=self.typed, switches=self.switches)
+        self.do("configurationDone")
+        self.begin_plain()
+
+    def begin_plain(self):
+        breakpoints = self.plain.breakpoints if self.plain else set()
+        self.plain = PlainDebugger(self.program, [("type", self.typed.encode()), ("switch", self.switches)])
+        self.plain.breakpoints = breakpoints
+        self.stops("entry")
+        self.compare()
+
+    def go(self, actions):
+        self.begin()
+        for _ in range(actions):
+            self.way()()
+            if self.is_over:
+                return
+            self.compare()
+        if self.chance.random() < 0.2:
+            self.do("restart")
+            self.begin_plain()
+
+    def way(self):
+        """What is done next: from the start mostly forward, from an end mostly back."""
+        kind = self.chance.randrange(20)
+        if kind < 3:
+            return self.change
+        if kind < 6:
+            return self.set_breakpoints
+        if kind == 6:
+            return self.look
+        if self.plain.held:
+            return self.forward if kind == 7 else self.back
+        if self.plain.board.count == 0:
+            return self.back if kind == 7 else self.forward
+        return self.forward if kind < 14 else self.back
+
+    # ---- messages
+
+    def ask(self, command, **arguments):
+        """Sends a request, and returns its response. The events before it are kept."""
+        self.editor.send(command, arguments)
+        return self.answer()
+
+    def answer(self):
+        while (message := self.editor.next())["type"] != "response":
+            self.events.append((message["event"], message.get("body")))
+        return message
+
+    def do(self, command, **arguments):
+        response = self.ask(command, **arguments)
+        if not response["success"]:
+            raise AssertionError(response)
+        return response["body"]
+
+    def refuses(self, told, command, **arguments):
+        response = self.ask(command, **arguments)
+        equal((response["success"], response.get("message")), (False, told))
+
+    def stops(self, reason):
+        """Receives the events up to a stop for this reason."""
+        while not self.events or self.events[-1][0] != "stopped":
+            self.events.append(self.editor.event())
+        equal(self.events[-1][1]["reason"], reason)
+
+    # ---- what is compared
+
+    def compare(self):
+        """The board, the routines, the console and the debugger's own lines must be the model's."""
+        board = self.plain.board
+        asked = [("variables", {"variablesReference": scope}) for scope in (1, 2, 3)]
+        asked += [("readMemory", {"memoryReference": "0x0000", "count": COMPARED}), ("stackTrace", {"threadId": 1})]
+        self.editor.say(b"".join(self.editor.request(*it) for it in asked))
+        *scopes, memory, stack = [self.answer()["body"] for _ in asked]
+        equal([it["value"] for scope in scopes for it in scope["variables"]], shown(board))
+        equal(base64.b64decode(memory["data"]), bytes(board.memory[:COMPARED]))
+        frames = self.plain.frames()
+        equal(([(it["name"], it["line"]) for it in stack["stackFrames"]], stack["totalFrames"]), (frames[:64], len(frames)))
+        self.compare_told()
+
+    def compare_told(self):
+        outputs = [body for name, body in self.events if name == "output"]
+        stdout, console = ["".join(it["output"] for it in outputs if it["category"] == name) for name in ("stdout", "console")]
+        equal(stdout.encode("latin-1"), self.printed)
+        equal(console, "".join(f"what came after step {count} is forgotten\n" for count in self.forgotten))
+        self.events, self.printed, self.forgotten = [], b"", []
+
+    # ---- forward
+
+    def forward(self):
+        command = self.chance.choice(("next", "stepIn", "stepOut", "continue", "continue", "continue"))
+        granularity = self.chance.choice(("line", "statement", "instruction"))
+        if self.plain.held:
+            self.end(command)
+            return
+        plain = copy.copy(self.plain)
+        plain.resume(None if command == "continue" else (command, granularity))
+        if (found := plain.go()) is None:
+            return
+        self.do(command, threadId=1, **({} if command == "continue" else {"granularity": granularity}))
+        equal(self.editor.event()[0], "continued")
+        while self.reached(plain, *found):
+            n = self.chance.randrange(8)
+            pressed = copy.copy(self.plain)
+            forgets, before = pressed.input("press", n), self.plain.board.count
+            if self.chance.random() < 0.3 or (found := pressed.go()) is None:
+                self.do("pause", threadId=1)
+                self.stops("pause")
+                return
+            equal(self.do("evaluate", expression=f"press {n}", context="repl")["result"], "ok")
+            self.forgotten += [before] * forgets
+            plain = pressed
+
+    def reached(self, plain, reason, console):
+        """The run has come to a stop, or waits. Returns whether it waits."""
+        self.plain, self.printed = plain, self.printed + console
+        if reason == "waiting":
+            self.wait_for_board()
+            return True
+        self.stops({"halted": "step"}.get(reason, reason))
+        if reason == "exception":
+            equal(self.events[-2][1]["output"], self.events[-1][1]["text"] + "\n")
+        return False
+
+    def wait_for_board(self):
+        """Waits until the run has come to where it waits, and stays there."""
+        wanted, alike = registers(self.plain.board), 0
+        for _ in range(2000):
+            found = [it["value"] for it in self.do("variables", variablesReference=1)["variables"]]
+            alike = alike + 1 if found == wanted else 0
+            if alike == 3:
+                return
+        raise AssertionError(f"{wanted} expected, {found}")
+
+    def end(self, command):
+        code = 1 if self.plain.held == "exception" else 0
+        self.do(command, threadId=1)
+        equal([self.editor.event() for _ in range(2)], [("exited", {"exitCode": code}), ("terminated", None)])
+        for asked, arguments in (("stepBack", {"threadId": 1}), ("reverseContinue", {"threadId": 1}),
+                                 ("evaluate", {"expression": "back", "context": "repl"})):
+            self.refuses("no program is stopped", asked, **arguments)
+        self.compare_told()
+        self.is_over = True
+
+    # ---- back
+
+    def back(self):
+        kind = self.chance.choice(("line", "line", "statement", "instruction", "reverse", "reverse", "back", "steps", "steps", "start"))
+        steps = self.chance.choice((1, 2, 5, 20, self.plain.board.count + 1, *self.steps_to_input()))
+        command, arguments = {
+            "reverse": ("reverseContinue", {"threadId": 1}), "back": prompt("back"), "steps": prompt(f"back {steps or 1}"),
+            "start": prompt("back start")}.get(kind, ("stepBack", {"threadId": 1, "granularity": kind}))
+        if self.plain.board.count == 0:
+            self.refuses(NOWHERE, command, **arguments)
+            return
+        self.plain = copy.copy(self.plain)
+        equal(self.do(command, **arguments).get("result"), "ok" if command == "evaluate" else None)
+        before = self.plain.board.count
+        if kind == "reverse":
+            self.stops(self.plain.reverse())
+        elif kind in ("back", "steps", "start"):
+            self.plain.go_to({"back": before - 1, "steps": before - (steps or 1), "start": 0}[kind])
+            self.stops("entry" if kind == "start" else "step")
+        else:
+            self.stops(self.plain.step_back(kind))
+        equal([name for name, _ in self.events], ["stopped"])
+
+    def steps_to_input(self):
+        """The steps back to a few before the last input."""
+        counts = [count for count, *_ in self.plain.inputs if count < self.plain.board.count]
+        return [self.plain.board.count - counts[-1] + self.chance.randrange(5)] * 3 if counts else []
+
+    # ---- changes
+
+    def change(self):
+        """Types, presses, or changes something by hand."""
+        board, byte = self.plain.board, self.chance.randrange(256)
+        kind = self.chance.choice(("type", "switch", "press", "set", "set", "byte", "write", "goto"))
+        if kind == "type":
+            self.changes("ok", prompt(f"type {byte}"), "type", b"%d\n" % byte)
+        elif kind == "switch":
+            self.changes("ok", prompt(f"switches {byte}"), "switch", byte)
+        elif kind == "press" and board.latched is not None:
+            self.refuses("a request is latched already", "evaluate", expression="press 1", context="repl")
+        elif kind == "press":
+            self.changes("ok", prompt(f"press {byte % 8}"), "press", byte % 8)
+        elif kind == "set":
+            self.set_register(byte)
+        elif kind == "goto":
+            self.go_to_line()
+        else:
+            self.write(kind, byte)
+
+    def changes(self, told, asked, *what):
+        """Sends a request that is done and told so, which is this input."""
+        command, arguments = asked
+        body = self.do(command, **arguments)
+        equal(body.get("result", body.get("value", body.get("bytesWritten"))), told)
+        count = self.plain.board.count
+        self.forgotten += [count] * self.plain.input(*what)
+
+    def set_register(self, byte):
+        name = self.chance.choice("ABCDEHL") if byte else "SP"
+        value = byte or plain_programs.STACK - 32
+        text = f"0{value:04X}H" if name == "SP" else f"0{value:02X}H"
+        self.changes(text, ("setVariable", {"variablesReference": 1, "name": name, "value": str(value)}), "set", name, value)
+
+    def write(self, kind, byte):
+        address = self.chance.choice([plain_programs.DATA + byte % 8, self.chance.choice(sorted(self.program.image))])
+        if kind == "byte":
+            asked = "setVariable", {"variablesReference": 5, "name": f"{address:04X}", "value": str(byte)}
+            self.changes(f"0{byte:02X}H", asked, "write", address, bytes([byte]))
+        else:
+            data = bytes([byte]) * (byte % 4)
+            asked = "writeMemory", {"memoryReference": f"0x{address:04x}", "data": base64.b64encode(data).decode()}
+            self.changes(len(data), asked, "write", address, data)
+
+    def go_to_line(self):
+        address = self.chance.choice(sorted(self.program.firsts))
+        line = self.program.lines[address]
+        [target] = self.do("gotoTargets", source={"path": self.path}, line=line)["targets"]
+        equal(target["line"], line)
+        self.changes(None, ("goto", {"threadId": 1, "targetId": target["id"]}), "set", "PC", address)
+        self.plain.held = None
+        self.stops("goto")
+
+    def set_breakpoints(self):
+        """Some anywhere, and some in routines, which are before the start."""
+        lines = {at: self.program.lines[at] for at in sorted(self.program.firsts)}
+        inside = [line for at, line in lines.items() if at < self.program.start]
+        chosen = {line for some in (list(lines.values()), inside) for line in self.chance.sample(some, self.chance.randint(0, 3))}
+        self.editor.set_breakpoints(self.path, sorted(chosen))
+        self.plain.breakpoints = chosen
+
+    # ---- looks
+
+    def look(self):
+        """A look, or a refusal, changes nothing."""
+        for words in ("back", "back 1", "back start", "type x"):
+            self.ask("evaluate", expression=words, context=self.chance.choice(("hover", "watch", "clipboard")))
+        self.refuses("a number of steps must follow, or the word start", "evaluate", expression="back 0", context="repl")
+
+
+class FarWalk:
+    """A random session in which a run goes forward and back by millions of steps."""
+
+    def __init__(self, editor, path, chance):
+        self.editor, self.path, self.chance = editor, path, chance
+        self.inputs, self.count, self.told, self.stops_at_carry = [], 0, 0, False
+
+    def go(self, actions):
+        with open(self.path, "w", encoding="ascii") as file:
+            file.write(plain_far.TEXT)
+        equal(self.editor.run_to(self.path, stopOnEntry=True), "entry")
+        self.forward()
+        for _ in range(actions):
+            self.chance.choice((self.forward, self.forward, self.back, self.back, self.back, self.change, self.set_breakpoint))()
+            self.compare()
+
+    def compare(self):
+        board = plain_far.board_at(self.inputs, self.count)
+        equal([it for scope in (1, 2, 3) for it in self.editor.shown(scope).values()], shown(board))
+        data = self.editor.do("readMemory", memoryReference=f"0x{plain_far.DATA:04x}", count=plain_far.SIZE)["data"]
+        equal(base64.b64decode(data), bytes(board.memory[plain_far.DATA:plain_far.DATA + plain_far.SIZE]))
+
+    def forward(self):
+        """To the breakpoint if it is set, or else by some milliseconds."""
+        self.editor.do("continue", threadId=1)
+        if self.stops_at_carry:
+            equal(self.editor.stop(), "breakpoint")
+            self.count = plain_far.carry_after(self.count)
+        else:
+            time.sleep(self.chance.random() * 0.03)
+            self.editor.do("pause", threadId=1)
+            self.count = self.count_now()
+        self.told = max(self.told, self.count)
+
+    def count_now(self):
+        pc, sp, *bc = [int(self.editor.shown(1)[name].rstrip("H"), 16) for name in ("PC", "SP", "B", "C")]
+        return plain_far.count_of(pc, sp, bc[0] << 8 | bc[1])
+
+    def back(self):
+        steps = int(10 ** (self.chance.random() * 8))
+        command, arguments, count, reason = self.chance.choice((
+            ("stepBack", {"threadId": 1}, self.count - 1, "step"),
+            ("reverseContinue", {"threadId": 1}, self.carry_before(), "breakpoint"),
+            (*prompt(f"back {steps}"), self.count - steps, "step"), (*prompt(f"back {steps}"), self.count - steps, "step"),
+        ))
+        if self.count == 0:
+            equal(self.editor.refusal(command, **arguments), NOWHERE)
+            return
+        self.editor.do(command, **arguments)
+        self.count = max(count, 0)
+        equal(self.editor.stop(), "entry" if reason == "breakpoint" and self.count == 0 else reason)
+
+    def carry_before(self):
+        return plain_far.carry_before(self.count) if self.stops_at_carry else 0
+
+    def change(self):
+        byte = self.chance.randrange(256)
+        if byte % 2:
+            what, (command, arguments) = ("switch", byte), prompt(f"switches {byte}")
+        else:
+            what, command = ("set", "H", byte), "setVariable"
+            arguments = {"variablesReference": 1, "name": "H", "value": str(byte)}
+        self.editor.do(command, **arguments)
+        if self.count < self.told:
+            equal(self.editor.event()[1]["output"], f"what came after step {self.count} is forgotten\n")
+        self.inputs = [it for it in self.inputs if it[0] <= self.count] + [(self.count, *what)]
+        self.told = self.count
+
+    def set_breakpoint(self):
+        self.stops_at_carry = not self.stops_at_carry
+        self.editor.set_breakpoints(self.path, [plain_far.CARRY_LINE] * self.stops_at_carry)
+
+
+def equal(found, wanted):
+    if found != wanted:
+        raise AssertionError(f"{found} found, {wanted} wanted")
+
+
+def prompt(words):
+    return "evaluate", {"expression": words, "context": "repl"}
+
+
+def registers(board):
+    return [f"0{board.r[plain_board.NAMES.index(name)]:02X}H" for name in "ABCDEHL"] + [f"0{board.sp:04X}H", f"0{board.pc:04X}H"]
+
+
+def shown(board):
+    """Registers, flags and devices, as the debugger shows them."""
+    flags = [str(it) for it in (board.s, board.z, board.ac, board.p, board.cy)] + [("off", "arming", "on")[board.interrupts]]
+    latched = "none" if board.latched is None else str(board.latched)
+    return registers(board) + flags + [f"0{board.switches:02X}H", f"0{board.lamps:02X}H", latched, str(len(board.typed))]

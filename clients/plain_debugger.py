@@ -1,0 +1,123 @@
+"""What the debugger promises of a run that goes forward and back, by a plain model of the board that begins anew each time."""
+from plain_board import OFF, ON, board_at, boards
+
+# The most steps that a run may make at once.
+MOST_STEPS = 3000
+
+
+class PlainDebugger:
+    """A run of a program that is held at its ends, with its inputs and breakpoints."""
+
+    def __init__(self, program, inputs):
+        self.program, self.inputs = program, [(0, *what) for what in inputs]
+        self.board, self.told, self.breakpoints = self.board_at(0), 0, set()
+        # The step that it makes, if it makes one, with the count and the live routines where it went on; how it is held at its end.
+        self.pending, self.resumed, self.live, self.held = None, 0, (), None
+
+    def board_at(self, count):
+        return board_at(self.program.image, self.program.start, self.inputs, count)
+
+    def boards(self):
+        """The boards before this one."""
+        for board in boards(self.program.image, self.program.start, self.inputs):
+            if board.count == self.board.count:
+                break
+            yield board
+
+    def begins(self, board):
+        """Whether a statement begins there."""
+        return board.pc in self.program.firsts
+
+    def is_at_breakpoint(self, board):
+        return self.begins(board) and self.program.lines[board.pc] in self.breakpoints
+
+    # ---- forward
+
+    def resume(self, pending=None):
+        """Goes on, by a step such as ("next", "line") or without one."""
+        self.pending, self.resumed, self.live = pending, self.board.count, tuple(self.board.frames)
+
+    def go(self):
+        """Goes on to where there is a reason to stop or to wait. Returns that and what is told of the console; None if it is far."""
+        board, heard = self.board_at(self.board.count), None
+        for _ in range(MOST_STEPS):
+            if board.count == max(self.told, self.board.count):
+                heard = len(board.console)
+            reason = self.reason(board)
+            if board.count > self.board.count:
+                self.do_again(board)
+                reason = reason or self.reason(board)
+            reason = reason or self.end(board)
+            if reason:
+                console = b"" if heard is None else bytes(board.console[heard:])
+                self.board, self.told = board, max(self.told, board.count)
+                self.held = reason if reason in ("halted", "exception") else None
+                return reason, console
+            board.step()
+        return None
+
+    def do_again(self, board):
+        """Does the inputs that lie ahead again. A change of a register ends a step, which knows its routines by SP."""
+        for count, *what in self.inputs:
+            if count == board.count:
+                board.do(*what)
+                if what[0] == "set":
+                    self.pending = None
+
+    def reason(self, board):
+        moved = board.count > self.resumed
+        if board.is_halted and board.interrupts == OFF:
+            return "halted"
+        if moved and self.is_at_breakpoint(board):
+            return "breakpoint"
+        if moved and self.pending and self.is_complete(board, *self.pending):
+            return "step"
+        return None
+
+    def is_complete(self, board, kind, granularity):
+        made_since = any(it.made > self.resumed for it in board.frames)
+        is_left = self.live and self.live[-1] not in board.frames
+        done = {"stepIn": True, "next": not made_since, "stepOut": is_left}[kind]
+        return done and (granularity == "instruction" or self.begins(board))
+
+    def end(self, board):
+        if board.is_halted and board.interrupts == ON and board.latched is None:
+            return "waiting"
+        return "exception" if board.is_at_undefined() else None
+
+    # ---- back
+
+    def last_before(self, is_there):
+        """The last count of steps before now at which it is there, or 0."""
+        return max((board.count for board in self.boards() if is_there(board)), default=0)
+
+    def step_back(self, granularity):
+        most = len(self.board.frames)
+        if granularity == "instruction":
+            return self.go_to(self.board.count - 1)
+        return self.go_to(self.last_before(lambda it: self.begins(it) and len(it.frames) <= most))
+
+    def reverse(self):
+        self.go_to(self.last_before(self.is_at_breakpoint))
+        return "breakpoint" if self.is_at_breakpoint(self.board) else "entry"
+
+    def go_to(self, count):
+        self.board, self.held = self.board_at(max(count, 0)), None
+        return "step"
+
+    # ---- inputs
+
+    def input(self, *what):
+        """An input now, as of `Board.do`. Returns whether something that lay ahead is forgotten."""
+        forgets, count = self.board.count < self.told, self.board.count
+        self.inputs = [it for it in self.inputs if it[0] <= count] + [(count, *what)]
+        self.board, self.told = self.board_at(count), count
+        return forgets
+
+    # ---- what is shown
+
+    def frames(self):
+        """The live routines, innermost first, with their lines."""
+        newest = self.board.frames[::-1]
+        names = [self.program.labels.get(it.target, f"{it.target:04X}H") for it in newest] + ["main"]
+        return list(zip(names, [self.program.lines.get(at, 0) for at in (self.board.pc, *(it.site for it in newest))]))
