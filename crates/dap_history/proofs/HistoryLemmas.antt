@@ -17,7 +17,7 @@ use Rattle.dap_history.specs.declared.saved.SavedMoment.{SavedMoment}
 use Rattle.dap_history.specs.Logs.{Ascends, latest, up_to}
 use Rattle.dap_history.specs.Runs.{board_at, at_from, detached_run, RunsDetached, OnlyRunChanges}
 use Rattle.dap_history.specs.Histories.{HistoryState, IsHistoryOf, IsSavedOf, HasRunOf, KeepsHistory}
-use Rattle.dap_history.specs.Histories.{KeepsRestAndHistory, only_if, Saves}
+use Rattle.dap_history.specs.Histories.{KeepsRestAndHistory, only_if}
 use Rattle.dap_history.proofs.LogLemmas.{ascends-up_to, ascends-push, up_to-push, up_to-up_to}
 use Rattle.dap_history.proofs.RunLemmas.{at_up_to}
 use Rattle.dap_history.proofs.ReplayLemmas.{rest_then, rest_on}
@@ -160,9 +160,3 @@ and_then start now old h h' mid new x y = (
   rest_then mid new now x.0 y.0,
   record { history = y.1.history; log = y.1.log ∙ x.1.log },
 )
-
--- saving a moment leaves the log
-pub log_after_save : (due : Bool) (count : ℕ) (old new : HistoryState) → Saves due count old new
-    → new.log ≡ old.log
-log_after_save true count old new saves = ap (λ (h : HistoryState). h.log) saves.1
-log_after_save false count old new same = ap (λ (h : HistoryState). h.log) same

@@ -1,7 +1,7 @@
 -- Runs that are split, and runs that are made again on another board.
 use Rattle.std.proofs.Common.{◌≡◌, ◌∙◌, ◌≤◌, ◌<◌, ◌-◌, ◌+◌, ℕ, zero, suc, List, [], ◌∷◌, ◌++◌, Bool}
 use Rattle.std.proofs.Common.{true, false}
-use Rattle.std.proofs.Common.{nat_le, nat_lt, is_some, Option, Some, Ok, Err, if◌then◌else◌}
+use Rattle.std.proofs.Common.{nat_le, nat_lt, is_some, Option, Some, None, Ok, Err, if◌then◌else◌}
 use Rattle.std.proofs.Common.{length, refl, sym, ap, arith, inl, inr}
 use Rattle.std.proofs.lemmas.Bool.{cases_lt}
 use Rattle.std.proofs.lemmas.Bool.Decides.{nat_tests}
@@ -13,6 +13,7 @@ use Rattle.lab_core.specs.declared.fault.EventFault.TheVariants.{Vector, Latched
 use Rattle.lab_core.specs.Board.{Board, after_next_step}
 use Rattle.lab_core.specs.Slices.{after_steps, left_by}
 use Rattle.lab_core.specs.Events.{EventResult, with_operation}
+use Rattle.lab_core.specs.Changes.{after_registers, request_left}
 use Rattle.lab_core.specs.Moments.{put_back, after_hold}
 use Rattle.lab_core.proofs.BurstLemmas.{after_more}
 use Rattle.dap_history.specs.declared.input.Input.{Input}
@@ -109,13 +110,20 @@ press_as true latched n resumed was now = refl
 press_as false true n resumed was now = refl
 press_as false false n resumed was now = refl
 
+-- where there is no Step, there is none after the registers are set
+no_request : (rises : Bool) → request_left rises None ≡ None
+no_request true = refl
+no_request false = refl
+
 pub input_as : (i : Input) (resumed : Option ℕ) (was now : Board)
     → after_input i (detached_run resumed was now) ≡ detached_run resumed (after_input i was) now
 input_as (input.Typed bytes) resumed was now = refl
 input_as (input.Switches byte) resumed was now = refl
 input_as (input.Press n) resumed was now =
     press_as (nat_lt 7 n) (is_some (panel_after was.past).latched) n resumed was now
-input_as (input.Registers registers) resumed was now = refl
+input_as (input.Registers registers) resumed was now =
+    ap (λ request. record (detached_run resumed (after_registers registers was) now) { request = request })
+    (no_request (nat_lt was.machine.regs.sp registers.sp))
 input_as (input.Write address bytes) resumed was now = refl
 
 by_test : (test : Bool) (x y x' y' : Board) → x ≡ x' → y ≡ y'

@@ -1,8 +1,10 @@
 -- The history of a run: its inputs, and saved moments of it.
 use Rattle.std.specs.Prelude.{◌≡◌, ℕ, List, [], ◌∷◌, ◌++◌, reverse, slice_get, Option, Some, None, Bool}
-use Rattle.std.specs.Prelude.{true, false, nat_le, nat_lt, if◌then◌else◌}
+use Rattle.std.specs.Prelude.{true, false, length, nat_le, nat_lt, ◌&&◌, if◌then◌else◌, Result, OnOk}
+use Rattle.std.specs.declared.alloc.AllocError.{AllocError}
 use Rattle.std.specs.List.{All, filter}
 use Rattle.std.specs.Option.{IfSome}
+use Rattle.i80_devs.specs.Past.{panel_after}
 use Rattle.lab_core.specs.Board.{Board}
 use Rattle.lab_core.specs.Labs.{LabState, RepresentsBoard}
 use Rattle.lab_core.specs.Moments.{MomentState, IsMomentOf}
@@ -71,17 +73,28 @@ abbrev pub count_of : Option SavedMoment → ℕ
 count_of None = 0
 count_of (Some saved) = saved.count
 
--- a moment is due if the last one was saved in an earlier unit
-abbrev pub is_due : List SavedMoment → ℕ → Bool
-is_due moments count = nat_lt (unit_of (count_of (slice_get (reverse moments) 0))) (unit_of count)
+-- how many typed bytes the board's program hasn't read
+abbrev pub unread : Board → ℕ
+unread b = length (panel_after b.past).waiting
+
+-- A moment is due if the last one was saved in an earlier unit, and not too many bytes are unread: a moment
+-- keeps a copy of them.
+abbrev pub is_due : List SavedMoment → ℕ → ℕ → Bool
+is_due moments count bytes =
+    nat_le bytes 32768 && nat_lt (unit_of (count_of (slice_get (reverse moments) 0))) (unit_of count)
 
 -- If one is due, those that stay are kept, with a new one; otherwise nothing changes.
-abbrev pub Saves : Bool → ℕ → HistoryState → HistoryState → Type 0
-Saves true count old new = (moment : MomentState) × (new ≡ record old {
+abbrev pub SavesIf : Bool → ℕ → HistoryState → HistoryState → Type 0
+SavesIf true count old new = (moment : MomentState) × (new ≡ record old {
   moments = filter (λ saved. stays saved.count count) old.moments
       ++ record { count = count; moment = moment } ∷ [];
 })
-Saves false count old new = new ≡ old
+SavesIf false count old new = new ≡ old
+
+-- the same of the lab's moment, if there is memory
+abbrev pub Saves : ℕ → LabState → Result (Unit {0}) AllocError → HistoryState → HistoryState → Type 0
+Saves count lab result old new = (b : Board) → RepresentsBoard lab b
+    → OnOk result (SavesIf (is_due old.moments count (unread b)) count old new)
 
 -- ---- what going to a count of steps does
 

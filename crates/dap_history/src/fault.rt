@@ -4,7 +4,7 @@ use std::alloc::AllocError;
 use thiserror::Error;
 
 /// Why an input wasn't recorded. The log is unchanged.
-#[derive(Clone, Copy, PartialEq, Eq, Debug, Error)]
+#[derive(Clone, Copy, Debug, Error)]
 pub enum LogFault {
     #[error("out of memory")]
     OutOfMemory,
@@ -14,7 +14,7 @@ pub enum LogFault {
 }
 
 /// Why a run didn't get to a count of steps.
-#[derive(Clone, Copy, PartialEq, Eq, Debug, Error)]
+#[derive(Clone, Copy, Debug, Error)]
 pub enum ReplayFault {
     #[error("out of memory")]
     OutOfMemory,

@@ -1,7 +1,7 @@
 //! What a search backward looks for.
 
 /// Where a search ends.
-#[derive(Clone, Copy, PartialEq, Eq, Debug)]
+#[derive(Clone, Copy)]
 pub enum Goal {
     /// Where a statement begins and at most so many frames are live.
     Statement { depth: usize },

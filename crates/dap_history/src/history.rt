@@ -6,7 +6,7 @@ ghost use Rattle.lab_core.specs.Labs.{RepresentsBoard};
 ghost use Rattle.dap_history.specs.Logs.{IsFullIf, Ascends, latest, later_than};
 ghost use Rattle.dap_history.specs.Runs.{board_at, after_rewind, KeepsRest, RunsDetached};
 ghost use Rattle.dap_history.specs.Histories.{IsHistoryOf, HasRunOf, cut_after, with_input, Saves};
-ghost use Rattle.dap_history.specs.Histories.{is_due, IsSavedOf, count_of, ForEachRun, KeepsHistory};
+ghost use Rattle.dap_history.specs.Histories.{IsSavedOf, count_of, ForEachRun, KeepsHistory};
 ghost use Rattle.dap_history.specs.Histories.{KeepsRestAndHistory};
 
 use crate::fault::{LogFault, ReplayFault};
@@ -115,18 +115,20 @@ impl History {
     }
 
     /// Saves the moment at which a run is after `count` steps, if one is due, and drops moments that are no
-    /// longer needed. The inputs recorded for that count must have been made.
+    /// longer needed. None is due while the program leaves more than 32,768 typed bytes unread. The inputs
+    /// recorded for that count must have been made.
     ///
     /// # Errors
     ///
     /// Without memory nothing changes. The run may go on: going back only takes longer.
     pub fn save_if_due(&mut self, lab: &Lab, count: u64) -> Result<(), AllocError>
-        ensures ok { OnOk result (Saves (is_due self.old.moments count) count self.old self.new) }
+        ensures ok { Saves count lab.now result self.old self.new }
         ensures history { (start : Board) → IsHistoryOf start self.old
             → HasRunOf (board_at start self.old.log count) lab.now → IsHistoryOf start self.new }
         ensures err { OnErr result (self.new ≡ self.old) }
     {
-        if !is_due(self.moments.as_slice(), count) {
+        let unread = lab.devices().bytes_waiting();
+        if !is_due(self.moments.as_slice(), count, unread) {
             return Ok(());
         }
         let moment = lab.moment()?;
@@ -184,7 +186,8 @@ impl History {
     }
 
     // Saves the moment at which the run is after `count` steps as the near one. The inputs recorded for that
-    // count must have been made. Without memory the one before stays.
+    // count must have been made. Without memory the one before stays. It is one moment, so it may have any
+    // number of unread bytes.
     fn save_near(&mut self, lab: &Lab, count: u64)
         ensures { (start : Board) → IsHistoryOf start self.old
             → HasRunOf (board_at start self.old.log count) lab.now → KeepsHistory start self.old self.new }

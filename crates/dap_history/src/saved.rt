@@ -12,6 +12,11 @@ use lab_core::lab::moments::Moment;
 /// The steps from one saved moment to the next.
 pub const UNIT: u64 = 1_048_576;
 
+/// The most unread bytes with which a moment is saved. A moment keeps a copy of the typed bytes that the
+/// program hasn't read, so that some hundred moments with megabytes of them each would fill the memory.
+/// While more wait, none is saved, and a run that never reads goes back from farther away.
+const UNREAD: usize = 32_768;
+
 /// A saved moment of a run, and how many steps the run had made then.
 #[derive(Drop)]
 pub struct SavedMoment {
@@ -93,11 +98,11 @@ pub(crate) fn count_of(saved: Option<&SavedMoment>) -> u64
     }
 }
 
-/// Whether a moment is to be saved after `count` steps.
-pub(crate) fn is_due(moments: &[SavedMoment], count: u64) -> bool
-    ensures { result ≡ is_due moments.now count }
+/// Whether a moment is to be saved after `count` steps, with so many unread bytes.
+pub(crate) fn is_due(moments: &[SavedMoment], count: u64, unread: usize) -> bool
+    ensures { result ≡ is_due moments.now count unread }
 {
-    count_of(moments.last()) / UNIT < count / UNIT
+    unread <= UNREAD && count_of(moments.last()) / UNIT < count / UNIT
 }
 
 /// The last moment that was saved after at most `count` steps.

@@ -5,17 +5,15 @@
 #![tactic(auto)]
 
 #[cfg(test)]
+mod cases;
+#[cfg(test)]
 mod ends;
 #[cfg(test)]
 mod logs;
 #[cfg(test)]
-mod long;
-#[cfg(test)]
-mod near;
+mod places;
 #[cfg(test)]
 mod play;
-#[cfg(test)]
-mod runs;
 #[cfg(test)]
 mod searches;
 #[cfg(test)]

@@ -63,17 +63,20 @@ fn logs_are_cut_after_a_count(rt: HostRuntime) -> Result<(), AllocError> {
     Ok(())
 }
 
-// What appending answers to inputs of so many bytes, one after another.
-fn answers(alloc: Global, lens: &[usize]) -> Result<(String, usize), AllocError> {
+// What appending answers to inputs of so many bytes, one after another, and how many there are then.
+fn answers(alloc: Global, lens: &[usize]) -> Result<String, AllocError> {
     let mut log = Log::new(alloc);
     let mut told = String::new(alloc);
     for len in lens {
-        match append(alloc, &mut log, 0, *len)? {
-            Ok(()) => told.push_str("ok ")?,
-            Err(fault) => write!(told, "{fault} ")?,
-        }
+        let answer = match append(alloc, &mut log, 0, *len)? {
+            Ok(()) => "ok ",
+            Err(LogFault::Full) => "full ",
+            Err(LogFault::OutOfMemory) => "out of memory ",
+        };
+        told.push_str(answer)?;
     }
-    Ok((told, log.entries().len()))
+    write!(told, "{}", log.entries().len())?;
+    Ok(told)
 }
 
 // Four inputs count 1,048,576 each, as many as a log has room for, and the least one counts 64.
@@ -81,12 +84,8 @@ fn answers(alloc: Global, lens: &[usize]) -> Result<(String, usize), AllocError>
 fn a_log_has_a_limit(rt: HostRuntime) -> Result<(), AllocError> {
     let quarter = 1_048_512;
     let lens = [quarter, quarter, quarter, quarter + 1, quarter, 0];
-    let (told, len) = answers(rt.alloc(), &lens)?;
-    assert!(rt;
-        told.as_str() == "ok ok ok the log of inputs is full ok the log of inputs is full ",
-        "{told}"
-    );
-    assert!(rt; len == 4);
+    let told = answers(rt.alloc(), &lens)?;
+    assert!(rt; told.as_str() == "ok ok ok full ok full 4", "{told}");
     Ok(())
 }
 

@@ -1,4 +1,6 @@
 //! Runs as tests write them: a program, and inputs at counts of steps.
+ghost use Rattle.lab_core.specs.Events.{Fits};
+
 use base_text::sequence::Bytes;
 use dap_history::fault::ReplayFault;
 use dap_history::history::History;
@@ -16,6 +18,8 @@ use std::alloc::{AllocError, Global};
 #[derive(Clone, Copy)]
 pub enum Given {
     Typed(&'static str),
+    /// Types so many bytes.
+    Many(u16),
     Switches(u8),
     Press(u8),
     /// Sets PC, SP and the interrupt state; A to L become 1 to 7, of the flags S and CY are set.
@@ -49,10 +53,17 @@ fn registers(pc: u16, sp: u16, interrupts: Interrupts) -> Registers {
     }
 }
 
+// Bytes to type, so many.
+fn many(alloc: Global, count: u16) -> Result<Bytes, AllocError> {
+    let bytes = vec![in alloc; 7u8; usize::from(count)]?;
+    Ok(Bytes::from(bytes))
+}
+
 /// The input, as a history takes it.
 pub fn input_of(alloc: Global, given: Given) -> Result<Input, AllocError> {
     Ok(match given {
         Given::Typed(text) => Input::Typed(Bytes::copy_of(alloc, text.as_bytes())?),
+        Given::Many(count) => Input::Typed(many(alloc, count)?),
         Given::Switches(byte) => Input::Switches(byte),
         Given::Press(n) => Input::Press(n),
         Given::Registers(pc, sp, interrupts) => Input::Registers(registers(pc, sp, interrupts)),
@@ -63,19 +74,26 @@ pub fn input_of(alloc: Global, given: Given) -> Result<Input, AllocError> {
     })
 }
 
+fn do_event(lab: &mut Lab, event: Event)
+    requires { Fits event }
+{
+    let _ = is_done(lab, &event);
+    drop(event);
+}
+
 /// Does to a board what the input says, by the board's own calls.
 pub fn give(alloc: Global, lab: &mut Lab, given: Given) -> Result<(), AllocError> {
     match given {
         Given::Typed(text) => {
-            let event = Event::Typed(Bytes::copy_of(alloc, text.as_bytes())?);
-            let _ = is_done(lab, &event);
+            let bytes = Bytes::copy_of(alloc, text.as_bytes())?;
+            do_event(lab, Event::Typed(bytes));
         }
-        Given::Switches(byte) => {
-            let _ = is_done(lab, &Event::Switches(byte));
+        Given::Many(count) => {
+            let bytes = many(alloc, count)?;
+            do_event(lab, Event::Typed(bytes));
         }
-        Given::Press(n) => {
-            let _ = is_done(lab, &Event::Press(n));
-        }
+        Given::Switches(byte) => do_event(lab, Event::Switches(byte)),
+        Given::Press(n) => do_event(lab, Event::Press(n)),
         Given::Registers(pc, sp, interrupts) => lab.set_registers(registers(pc, sp, interrupts)),
         Given::Write(address, bytes) => lab.write(address, bytes),
     }
@@ -111,39 +129,47 @@ pub fn slice(lab: &mut Lab, n: u16) -> u16 {
     made
 }
 
-/// Makes inputs, from a place in their list on, that come after `count` steps. Gives the place behind them.
-pub fn give_due(
+fn make_steps(lab: &mut Lab, from: u64, to: u64) {
+    let mut count = from;
+    for _ in from..to {
+        if count >= to {
+            return;
+        }
+        let left = (to - count).min(4096) as u16;
+        count = count.saturating_add(u64::from(slice(lab, left)));
+    }
+}
+
+/// How far a plain run has come: how many steps it has made, and how many of its inputs.
+#[derive(Clone, Copy)]
+pub struct Place {
+    pub count: u64,
+    pub inputs: usize,
+}
+
+/// Makes a plain run go on to a count of steps, with its inputs up to then.
+pub fn go_on(
     alloc: Global,
     lab: &mut Lab,
     play: Play,
-    place: usize,
-    count: u64,
-) -> Result<usize, AllocError> {
-    let mut place = place;
-    for (at, given) in play.inputs.iter().skip(place) {
-        if *at == count {
-            give(alloc, lab, *given)?;
-            place = place.saturating_add(1);
+    place: Place,
+    to: u64,
+) -> Result<Place, AllocError> {
+    let Place {
+        mut count,
+        mut inputs,
+    } = place;
+    for (at, given) in play.inputs.iter().skip(place.inputs) {
+        if *at > to {
+            break;
         }
+        make_steps(lab, count, *at);
+        give(alloc, lab, *given)?;
+        count = *at;
+        inputs = inputs.saturating_add(1);
     }
-    Ok(place)
-}
-
-/// Records an input. One that finds no memory is recorded at the second try.
-pub fn record(
-    alloc: Global,
-    history: &mut History,
-    count: u64,
-    given: Given,
-) -> Result<(), AllocError> {
-    let _ = history.forget_after(count);
-    let first = input_of(alloc, given)?;
-    if history.record(count, first).is_err() {
-        let _ = history.forget_after(count);
-        let second = input_of(alloc, given)?;
-        let _ = history.record(count, second);
-    }
-    Ok(())
+    make_steps(lab, count, to);
+    Ok(Place { count: to, inputs })
 }
 
 /// A run with its history.
@@ -159,6 +185,41 @@ fn history_of(alloc: Global, lab: &Lab) -> Result<History, AllocError> {
         return Ok(history);
     }
     History::new(alloc, lab)
+}
+
+/// A run that begins, with its history.
+pub fn begin_live(alloc: Global, text: &str) -> Result<Live, AllocError> {
+    let lab = begin(alloc, text)?;
+    match history_of(alloc, &lab) {
+        Ok(history) => Ok(Live { lab, history }),
+        Err(_) => {
+            drop(lab);
+            Err(AllocError)
+        }
+    }
+}
+
+// Records an input. One that finds no memory is recorded at the second try.
+fn record(
+    alloc: Global,
+    history: &mut History,
+    count: u64,
+    given: Given,
+) -> Result<(), AllocError> {
+    for _ in 0..2 {
+        let _ = history.forget_after(count);
+        let input = input_of(alloc, given)?;
+        if history.record(count, input).is_ok() {
+            return Ok(());
+        }
+    }
+    Ok(())
+}
+
+/// Changes a run where it is, and records that.
+pub fn change(alloc: Global, live: &mut Live, count: u64, given: Given) -> Result<(), AllocError> {
+    give(alloc, &mut live.lab, given)?;
+    record(alloc, &mut live.history, count, given)
 }
 
 // Saves a moment if one is due, at the second try if the first finds no memory.
@@ -181,20 +242,16 @@ fn run_to(live: &mut Live, from: u64, to: u64, most: u16) {
     }
 }
 
-/// A run with its history, made in slices of at most `most` steps.
-pub fn play_live(alloc: Global, play: Play, most: u16) -> Result<Live, AllocError> {
-    let lab = begin(alloc, play.text)?;
-    let history = history_of(alloc, &lab)?;
-    let mut live = Live { lab, history };
+/// Makes all of a run, in slices of at most `most` steps.
+pub fn run_all(alloc: Global, live: &mut Live, play: Play, most: u16) -> Result<(), AllocError> {
     let mut count = 0;
     for (at, given) in play.inputs {
-        run_to(&mut live, count, *at, most);
+        run_to(live, count, *at, most);
         count = *at;
-        give(alloc, &mut live.lab, *given)?;
-        record(alloc, &mut live.history, count, *given)?;
+        change(alloc, live, count, *given)?;
     }
-    run_to(&mut live, count, play.steps, most);
-    Ok(live)
+    run_to(live, count, play.steps, most);
+    Ok(())
 }
 
 /// Goes to a count of steps, at the second try if the first finds no memory. Gives whether it came there.

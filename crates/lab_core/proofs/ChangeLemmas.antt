@@ -1,7 +1,8 @@
 -- Changes by hand in any state of the run.
 use Rattle.std.proofs.Common.{◌≡◌, ℕ, ◌+◌, ◌%◌, ◌≤◌, List, [], ◌∷◌, ◌++◌, Option, Some, None, not, ◌&&◌}
-use Rattle.std.proofs.Common.{false, length, refl, sym, ap}
+use Rattle.std.proofs.Common.{Bool, true, false, length, refl, sym, ap, nat_lt}
 use Rattle.std.proofs.Common.{◌∙◌, subst, rules, arith, length-append}
+use Rattle.std.proofs.lemmas.Bool.{ltb-false}
 use Rattle.std.proofs.lemmas.List.{take-append-le, drop-append-le}
 use Rattle.std.proofs.lemmas.List.Sums.{fold-append}
 use Rattle.std.specs.Option.{IsSome, unwrap_or}
@@ -17,7 +18,8 @@ use Rattle.lab_core.specs.Board.{Board}
 use Rattle.lab_core.specs.Stops.{earlier, since, has_step, innermost, is_gone}
 use Rattle.lab_core.specs.Slices.{ends_in_halt, halts}
 use Rattle.lab_core.specs.Events.{changed_to}
-use Rattle.lab_core.specs.Changes.{with_bytes, after_write, after_registers}
+use Rattle.lab_core.specs.declared.event.StepRequest.{StepRequest}
+use Rattle.lab_core.specs.Changes.{with_bytes, after_write, request_left, request_after, after_registers}
 use Rattle.lab_core.specs.Labs.{LabState, RepresentsBoard, Follows}
 use Rattle.lab_core.proofs.StandsLemmas.{step-none}
 
@@ -54,9 +56,14 @@ gone-poke (Some f) entries m m' = ap not (stays-poke entries f)
     stays-poke [] f = refl
     stays-poke (e ∷ entries) f = ap (λ rest. not (ends e f) && rest) (stays-poke entries f)
 
--- The lab after a change by hand, if no Step is pending or SP is unchanged.
+at_least-lower : (low high : ℕ) (fs : List Frame) → low ≤ high → AtLeast high fs → AtLeast low fs
+at_least-lower low high [] under all = tt
+at_least-lower low high (f ∷ fs) under all =
+    (let slot = all.0 in omega arith, at_least-lower low high fs under all.1)
+
+-- The lab after a change by hand, if no Step is pending or SP doesn't rise.
 pub stands_changed : (old : LabState) (b : Board) (machine : MachineState) → RepresentsBoard old b
-    → (IsSome b.request → machine.regs.sp ≡ b.machine.regs.sp)
+    → (IsSome b.request → machine.regs.sp ≤ b.machine.regs.sp)
     → RepresentsBoard (record old { machine = machine }) (changed_to machine b)
 stands_changed old b machine s same =
     let entry : Entry = Poke b.machine machine in
@@ -87,7 +94,8 @@ stands_changed old b machine s same =
           f.gone_is;
     }) in
     let above : IsSome b.request → AtLeast machine.regs.sp (live (since new)) =
-    λ asked. rw (since-is, live-poke (since b) b.machine machine, same asked) (s.above asked) in
+    λ asked. rw (since-is, live-poke (since b) b.machine machine)
+    (at_least-lower machine.regs.sp b.machine.regs.sp (live (since b)) (same asked) (s.above asked)) in
     search rules
 
 pub stands_written : (old : LabState) (b : Board) (address : ℕ) (bytes : List ℕ) (machine : MachineState)
@@ -98,21 +106,43 @@ stands_written old b address bytes machine s is =
     is ∙ ap (λ m. with_bytes address bytes m) s.machine in
     let M : MachineState → Type 0 =
     λ m. RepresentsBoard (record old { machine = m }) (after_write address bytes b) in
+    let N : ℕ → Type 0 = λ n. n ≤ b.machine.regs.sp in
     subst M (sym machine-is) (stands_changed old b (with_bytes address bytes b.machine) s
-    (λ asked. ap (λ (r : Registers). r.sp) (bytes-regs address bytes b.machine)))
+    (λ asked. subst N (sym (ap (λ (r : Registers). r.sp) (bytes-regs address bytes b.machine)))
+    (omega arith)))
 
 dropped : (old : LabState) (b : Board) → RepresentsBoard old b
     → RepresentsBoard (record old { request = None }) (record b { request = None })
 dropped old b s = search rules
 
+stands_left : (rises : Bool) (b : Board) (old : LabState) → RepresentsBoard old b
+    → RepresentsBoard (record old { request = request_left rises b.request })
+    (record b { request = request_left rises b.request })
+stands_left true b old s = dropped old b s
+stands_left false b old s = subst (λ r. RepresentsBoard (record old { request = r }) b) s.request s
+
+not_raised : (low high : ℕ) (rises : Bool) (request : Option StepRequest) → nat_lt low high ≡ rises
+    → IsSome (request_left rises request) → high ≤ low
+not_raised low high true request is left = absurd cc
+not_raised low high false request is left = ltb-false low high is
+
 pub stands_registers : (old : LabState) (b : Board) (registers : Registers) (machine : MachineState)
-    → RepresentsBoard old b → machine ≡ with_regs old.machine registers
-    → RepresentsBoard (record old { machine = machine; request = None }) (after_registers registers b)
-stands_registers old b registers machine s is =
+    (request : Option StepRequest) → RepresentsBoard old b → machine ≡ with_regs old.machine registers
+    → request ≡ request_left (nat_lt old.machine.regs.sp registers.sp) old.request
+    → RepresentsBoard (record old { machine = machine; request = request }) (after_registers registers b)
+stands_registers old b registers machine request s is request-is =
     let machine-is : machine ≡ with_regs b.machine registers =
     is ∙ ap (λ (m : MachineState). with_regs m registers) s.machine in
+    let left : Option StepRequest = request_after registers b in
+    let left-is : request ≡ left =
+    request-is
+    ∙ (ap (λ (m : MachineState). request_left (nat_lt m.regs.sp registers.sp) old.request) s.machine
+    ∙ ap (λ r. request_left (nat_lt b.machine.regs.sp registers.sp) r) s.request) in
     let M : MachineState → Type 0 =
-    λ m. RepresentsBoard (record old { machine = m; request = None }) (after_registers registers b) in
-    let d : RepresentsBoard (record old { request = None }) (record b { request = None }) = dropped old b s in
-    subst M (sym machine-is) (stands_changed _ (record b { request = None }) (with_regs b.machine registers) d
-    (λ asked. cc))
+    λ m. RepresentsBoard (record old { machine = m; request = left }) (after_registers registers b) in
+    let R : Option StepRequest → Type 0 =
+    λ r. RepresentsBoard (record old { machine = machine; request = r }) (after_registers registers b) in
+    subst R (sym left-is) (subst M (sym machine-is)
+    (stands_changed _ (record b { request = left }) (with_regs b.machine registers)
+    (stands_left (nat_lt b.machine.regs.sp registers.sp) b old s)
+    (not_raised b.machine.regs.sp registers.sp (nat_lt b.machine.regs.sp registers.sp) b.request refl)))

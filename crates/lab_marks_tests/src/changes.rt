@@ -83,7 +83,7 @@ A=002H B=000H C=000H D=000H E=000H H=000H L=000H SP=00000H PC=00003H
     ),
 ];
 
-const REGISTERS: [Play; 6] = [
+const REGISTERS: [Play; 7] = [
     (
         "registers are set while a program runs",
         &[
@@ -143,13 +143,26 @@ Accepted
         "0000 1234 0\n2 End(Halted)\n0200=001H \n",
     ),
     (
-        "a Step is dropped, and the next one is complete after a step",
+        "a Step goes on where SP stays",
         &[
             Start("NOP\nNOP\nX: JMP X"),
             Apply(Attach),
             Apply(Pause),
             Apply(Instruction(In)),
             SetRegisters(1, 0, Off),
+            Apply(Slice(10)),
+            Registers,
+        ],
+        "Accepted\nAccepted\nAccepted\n1 Stop(Step)\n0002 0000 0\n",
+    ),
+    (
+        "a Step is dropped where SP rises, and the next one is complete after a step",
+        &[
+            Start("NOP\nNOP\nX: JMP X"),
+            Apply(Attach),
+            Apply(Pause),
+            Apply(Instruction(In)),
+            SetRegisters(1, 1, Off),
             Apply(Slice(10)),
             Registers,
             Apply(Pause),
@@ -161,7 +174,7 @@ Accepted
 Accepted
 Accepted
 10 More
-0002 0000 0
+0002 0001 0
 Accepted
 Accepted
 1 Stop(Step)

@@ -1,8 +1,7 @@
-//! Bursts, which make most steps of a slice. During a burst no request is latched, no pending Step is
-//! done, and the last step wasn't HLT. A quiet step answers Done and leaves SP below the slot of every
-//! live frame, so it only has to be counted: the loop tests its kind, and, if breakpoints can be met, the
-//! address of the next instruction. After any other step the live frames are updated and the burst
-//! continues, unless the step was HLT or EI or completed the Step.
+//! Bursts, which make most steps of a slice. During one no request is latched, no pending Step is done, and
+//! the last step wasn't HLT. A quiet step answers Done and leaves SP below the slot of every live frame, so
+//! it is only counted: the loop tests its kind, and the next address if breakpoints can be met. After
+//! another step the live frames are updated, and the burst continues but for HLT, EI and a Step's end.
 ghost use Rattle.std.specs.Prelude.{◌≡◌, ◌+◌, ◌<◌, ◌≤◌, ◌⊎◌, ℕ, true, false, None, IsSome, is_some};
 ghost use Rattle.std.specs.Prelude.{reverse, slice_get};
 ghost use Rattle.i80_exec.specs.declared.registers.Kind.TheVariants.{Quiet, Moved};
@@ -180,7 +179,7 @@ impl Context {
         }
     }
 
-    // Updates the frames and the pending Step after a step of this kind, not a quiet one, from PC `site`.
+    // Updates frames and Step after a step of this kind, not a quiet one, from PC `site`.
     #[inline(always)]
     fn advance(&mut self, machine: &Machine, kind: Kind, site: u16, is_asked: bool) -> BurstStep
         requires calls { CallsAt (answer_of kind machine.now) machine.now.regs.sp }

@@ -17,14 +17,15 @@ impl Lab {
         store(&mut self.machine, address, bytes);
     }
 
-    /// Sets the registers, flags and interrupt state, and cancels a pending Step. This isn't a step of the
-    /// run.
+    /// Sets the registers, flags and interrupt state. If SP rises, a pending Step is canceled. It is no step.
     pub fn set_registers(&mut self, registers: Registers)
         ensures { (b : Board) → RepresentsBoard self.old b
             → RepresentsBoard self.new (after_registers registers b) }
     {
+        let rises = self.machine.sp() < registers.sp;
+        let request = if rises { None } else { self.context.request };
         self.machine.set_regs(registers);
-        self.context.request = None;
+        self.context.request = request;
     }
 }
 
