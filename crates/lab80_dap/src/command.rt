@@ -1,37 +1,63 @@
 //! The command line.
-ghost use Rattle.std.specs.Prelude.{◌≡◌};
+ghost use Rattle.std.specs.Prelude.{◌≡◌, map, string_bytes, IfErr};
+ghost use Rattle.lab80_dap.specs.Command.{port_of, one_word, two_words, command_of};
 
 use cli_io::status::Status;
 use std::alloc::Global;
 use std::rt::Env;
 use std::{env, io};
 
-// What standard error says if the program doesn't know the words.
-const USAGE: &str = "usage: lab80_dap [--port N]";
-
-/// What an editor is served over.
+/// What the program is to do.
 #[derive(Clone, Copy, PartialEq, Eq)]
 pub enum Command {
-    /// Standard input and output.
+    /// Serves an editor over standard input and output.
     Streams,
-    /// A connection to this port.
+    /// Serves an editor over a connection to this port.
     Port(u16),
+    /// Prints the usage.
+    Help,
+    /// Prints the version.
+    Version,
 }
 
-// A port, from 1 to 65,535, in decimal.
-fn port_of(word: &str) -> Option<u16> {
+fn port_of(word: &str) -> Option<u16>
+    ensures { result ≡ port_of word.now }
+{
     match word.parse::<u16>() {
-        Ok(port) if port != 0 => Some(port),
-        _ => None,
+        Ok(0) => None,
+        Ok(port) => Some(port),
+        Err(_) => None,
     }
 }
 
-fn command_of(words: &[String]) -> Option<Command> {
+fn one_word(word: &str) -> Option<Command>
+    ensures { result ≡ one_word word.now }
+{
+    if word == "--help" {
+        return Some(Command::Help);
+    }
+    if word == "--version" {
+        return Some(Command::Version);
+    }
+    None
+}
+
+fn two_words(word: &str, other: &str) -> Option<Command>
+    ensures { result ≡ two_words word.now other.now }
+{
+    if word == "--port" {
+        return Some(Command::Port(port_of(other)?));
+    }
+    None
+}
+
+fn command_of(words: &[String]) -> Option<Command>
+    ensures { result ≡ command_of (map string_bytes words.now) }
+{
     match words {
         [] => Some(Command::Streams),
-        [option, number] if option.as_str() == "--port" => {
-            Some(Command::Port(port_of(number.as_str())?))
-        }
+        [word] => one_word(word.as_str()),
+        [word, other] => two_words(word.as_str(), other.as_str()),
         _ => None,
     }
 }
@@ -42,18 +68,12 @@ fn collect(rt: &(impl Env + AllocGlobal)) -> io::Result<Vec<String>> {
 
 /// What the words after the program's name ask for, or `None` if the program doesn't know them, as words that
 /// aren't UTF-8. Fails only if memory runs out.
-pub fn read_command(rt: &(impl Env + AllocGlobal)) -> Result<Option<Command>, Status> {
+pub fn read_command(rt: &(impl Env + AllocGlobal)) -> Result<Option<Command>, Status>
+    ensures { IfErr result (λ status. status ≡ Status.OutOfMemory) }
+{
     match collect(rt) {
         Ok(words) => Ok(command_of(&words)),
         Err(error) if error.kind() == io::ErrorKind::OutOfMemory => Err(Status::OutOfMemory),
         Err(_) => Ok(None),
     }
-}
-
-/// Writes the usage to standard error. The status is the same if that can't be written.
-pub fn show_usage(rt: &impl Eprint) -> Status
-    ensures { result ≡ Status.Usage }
-{
-    let _ = rt.eprintln(USAGE);
-    Status::Usage
 }
