@@ -266,6 +266,10 @@ class Session(unittest.TestCase):
     def editor(self, *words):
         return self.enterContext(Editor(*words))
 
+    def changes(self, editor, breakpoint):
+        """The editor is told of a breakpoint that isn't what it was."""
+        self.assertEqual(editor.event(), ("breakpoint", {"breakpoint": breakpoint, "reason": "changed"}))
+
     def converse(self, path, conversation):
         """A whole session to the byte: each request, and all that must be said then. PATH in it is the program's path."""
         with Editor() as editor:

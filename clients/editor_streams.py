@@ -28,7 +28,8 @@ PROGRAMS = {
 
 COMMANDS = (
     "initialize", "launch", "configurationDone", "restart", "terminate", "setBreakpoints", "setFunctionBreakpoints",
-    "setExceptionBreakpoints", "loadedSources", "threads", "stackTrace", "scopes", "variables", "setVariable", "continue", "next",
+    "breakpointLocations", "setExceptionBreakpoints", "loadedSources",
+    "threads", "stackTrace", "scopes", "variables", "setVariable", "continue", "next",
     "stepIn", "stepOut", "stepBack", "reverseContinue", "pause", "source", "evaluate", "readMemory", "writeMemory", "disassemble",
     "attach", "boardSwitches", "boardPress", "boardType", "boardReset", "boardAliases", "dumpCell", "debugInfo",
     "inspectVariables", "nothing", "",
@@ -78,7 +79,7 @@ def likely(folder, chance):
         "offset": chance.choice((0, 1, -1, 65_536, -65_536)), "instructionCount": chance.choice((1, 10, 256, 257)),
         "instructionOffset": chance.choice((0, 5, -5, -65_536, 4_294_967_295)),
         "data": chance.choice(("AAEC", "AAEC" * 1_000, "?")), "threadId": 1, "vector": chance.randrange(9),
-        "text": "hello\n", "code": "NOP\n", "filters": [],
+        "text": "hello\n", "code": "NOP\n", "filters": [], "line": chance.randrange(16), "endLine": chance.randrange(16),
     }
 
 

@@ -254,12 +254,14 @@ class Walk:
         self.stops("goto")
 
     def set_breakpoints(self):
-        """Some anywhere, and some in routines, which are before the start."""
-        lines = {at: self.program.lines[at] for at in sorted(self.program.firsts)}
-        inside = [line for at, line in lines.items() if at < self.program.start]
-        chosen = {line for some in (list(lines.values()), inside) for line in self.chance.sample(some, self.chance.randint(0, 3))}
-        self.editor.set_breakpoints(self.path, sorted(chosen))
-        self.plain.breakpoints = chosen
+        """Some anywhere, also on lines without code, and some in routines, which are before the start."""
+        everywhere = range(self.program.text.count("\n") + 2)
+        inside = [self.program.lines[at] for at in sorted(self.program.firsts) if at < self.program.start]
+        chosen = sorted({line for some in (everywhere, inside) for line in self.chance.sample(some, self.chance.randint(0, 3))})
+        landings = [self.plain.landing(line) for line in chosen]
+        shown = [(line, False) if landing is None else (landing, True) for line, landing in zip(chosen, landings)]
+        equal(self.editor.set_breakpoints(self.path, chosen), shown)
+        self.plain.breakpoints = set(landings) - {None}
 
     # ---- looks
 

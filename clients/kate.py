@@ -14,6 +14,9 @@ PROGRAMS = ("kate", "Xvfb", "xdotool", "dbus-run-session")
 
 WIDTH, HEIGHT = 1000, 700
 
+# Where the line below Output is, in a window of this size.
+CONSOLE = "390", "662"
+
 # Records the messages of both sides, and is found as lab80-dap.
 BETWEEN = """\
 #!/bin/sh
@@ -187,6 +190,16 @@ class Kate:
         """Chooses from the menu, and waits until something was sent. Kate asks for the frames and variables of a stop
         before it can do more."""
         self.choose(letter)
+        return self.answered(what, is_so)
+
+    def type(self, line, what, is_so):
+        """Types into the line below Output, and waits until something was sent."""
+        self.key_tool("mousemove", *CONSOLE, "click", "1")
+        self.key_tool("type", line)
+        self.key_tool("key", "Return")
+        return self.answered(what, is_so)
+
+    def answered(self, what, is_so):
         found = wait_for(what, is_so)
         wait_for("all answers", lambda: len(self.asked()) == sum(it["type"] == "response" for it in self.said()))
         wait_for("Kate at rest", self.is_still)

@@ -28,6 +28,10 @@ class PlainDebugger:
         """Whether a statement begins there."""
         return board.pc in self.program.firsts
 
+    def landing(self, line):
+        """The first line with code at or below this one, where a breakpoint on it is met; None if there is none."""
+        return min((it for at, it in self.program.lines.items() if at in self.program.firsts and it >= line), default=None)
+
     def is_at_breakpoint(self, board):
         return self.begins(board) and self.program.lines[board.pc] in self.breakpoints
 
@@ -57,11 +61,12 @@ class PlainDebugger:
         return None
 
     def do_again(self, board):
-        """Does the inputs that lie ahead again. A change of a register ends a step, which knows its routines by SP."""
+        """Does the inputs that lie ahead again. One that raises SP ends a step, which knows its routines by SP."""
         for count, *what in self.inputs:
             if count == board.count:
+                sp = board.sp
                 board.do(*what)
-                if what[0] == "set":
+                if board.sp > sp:
                     self.pending = None
 
     def reason(self, board):

@@ -1,6 +1,7 @@
 """Requests that editors must not send, files that can't be debugged, and streams that break off."""
 import json
 import os
+import re
 import socket
 import subprocess
 import sys
@@ -8,10 +9,10 @@ import threading
 import time
 import unittest
 
-from dap_wire import CLIENT, debugger, framed, request, split
+from dap_wire import CLIENT, TOP, debugger, framed, request, split
 from editor import Editor, Session, free_port
 
-USAGE = "usage: lab80_dap [--port N]\n"
+USAGE = "usage: lab80-dap [--port N | --help | --version]\n"
 
 # The most bytes of a text, and of a body.
 MOST = 1_048_576
@@ -54,11 +55,13 @@ WRONG_ARGUMENTS = (
     ("setBreakpoints", {}), ("setBreakpoints", {"source": {"name": "x"}}), ("setBreakpoints", {"source": "x"}),
     ("setBreakpoints", {"source": {"path": "x"}, "breakpoints": [1]}),
     ("setBreakpoints", {"source": {"path": "x"}, "breakpoints": [{"line": -1}]}),
-    ("setBreakpoints", {"source": {"path": "x"}, "breakpoints": [{"line": 1, "condition": "A"}]}),
+    ("setBreakpoints", {"source": {"path": "x"}, "breakpoints": [{"condition": "A"}]}),
     ("setBreakpoints", {"source": {"path": "x"}, "breakpoints": [{"line": 1}] * 257}),
     ("setFunctionBreakpoints", {}), ("setFunctionBreakpoints", {"breakpoints": [{}]}),
-    ("setFunctionBreakpoints", {"breakpoints": [{"name": "x", "hitCondition": "2"}]}),
+    ("setFunctionBreakpoints", {"breakpoints": [{"hitCondition": "2"}]}),
     ("setFunctionBreakpoints", {"breakpoints": [{"name": "x"}] * 257}),
+    ("breakpointLocations", {}), ("breakpointLocations", {"source": {"path": "x"}}),
+    ("breakpointLocations", {"source": {"path": "x"}, "line": 1, "endLine": "2"}),
     ("evaluate", {}), ("evaluate", {"expression": 1}), ("evaluate", {"expression": "A", "context": 1}),
     ("readMemory", {}), ("readMemory", {"memoryReference": "0x0000"}), ("readMemory", {"memoryReference": 0, "count": 1}),
     ("readMemory", {"memoryReference": "0x000", "count": 1}), ("readMemory", {"memoryReference": "00000", "count": 1}),
@@ -434,7 +437,7 @@ class Ports(Session):
         with socket.create_server(("127.0.0.1", 0)) as listener:
             words = [debugger(), "--port", str(listener.getsockname()[1])]
             done = subprocess.run(words, capture_output=True, text=True, timeout=5, check=False)
-        self.assertEqual((done.returncode, done.stdout), (4, ""))
+        self.assertEqual((done.returncode, done.stdout, done.stderr), (4, "", "port in use\n"))
 
     def test_it_listens_on_this_machine_alone(self):
         port, _ = self.serve()
@@ -443,11 +446,33 @@ class Ports(Session):
         self.assertIn(f"0100007F:{port:04X}", listening)
         self.assertNotIn(f"00000000:{port:04X}", listening)
 
+
+class Words(unittest.TestCase):
+    def told(self, *words, to=subprocess.PIPE):
+        words = [debugger(), *words]
+        done = subprocess.run(words, input="", stdout=to, stderr=subprocess.PIPE, text=True, timeout=5, check=False)
+        return done.returncode, done.stdout, done.stderr
+
+    def test_help_has_a_line_for_each_word(self):
+        status, text, error = self.told("--help")
+        self.assertEqual((status, error, text[:len(USAGE)]), (0, "", USAGE))
+        listed = [line.split()[0] for line in text.splitlines() if line.startswith("  ")]
+        self.assertEqual(listed, re.findall(r"--\w+", USAGE))
+
+    def test_the_version_is_that_of_the_file(self):
+        with open(os.path.join(TOP, "VERSION"), encoding="ascii") as file:
+            self.assertEqual(self.told("--version"), (0, f"lab80-dap {file.read()}", ""))
+
+    def test_what_cannot_be_written_has_failed(self):
+        for word in ("--help", "--version"):
+            with open("/dev/full", "wb") as full:
+                self.assertEqual(self.told(word, to=full), (4, None, ""), word)
+
     def test_other_words_show_the_usage(self):
         for words in (["x"], ["--port"], ["--port", ""], ["--port", "0"], ["--port", "65536"], ["--port", "-1"], ["--port", "1x"],
-                      ["--port", "1", "x"], ["--help"], ["", ""], ["--port=5"], ["--port", "99999999999999999999"]):
-            done = subprocess.run([debugger(), *words], input="", capture_output=True, text=True, timeout=5, check=False)
-            self.assertEqual((done.returncode, done.stdout, done.stderr), (2, "", USAGE), words)
+                      ["--port", "+"], ["--port", "++1"], ["--port", "1", "x"], ["--help", "x"], ["--version", "--help"],
+                      ["--helpx"], ["-h"], ["", ""], ["--port=5"], ["--port", "99999999999999999999"], [b"\xff"]):
+            self.assertEqual(self.told(*words), (2, "", USAGE), words)
 
 
 def is_gone(number, seconds=5):

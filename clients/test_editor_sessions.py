@@ -72,8 +72,8 @@ START:  MVI A,'!'
 
 CAPABILITIES = {
     **dict.fromkeys((
-        "supportsConfigurationDoneRequest", "supportsDisassembleRequest", "supportsEvaluateForHovers",
-        "supportsExceptionInfoRequest", "supportsFunctionBreakpoints", "supportsGotoTargetsRequest",
+        "supportsBreakpointLocationsRequest", "supportsConfigurationDoneRequest", "supportsDisassembleRequest",
+        "supportsEvaluateForHovers", "supportsExceptionInfoRequest", "supportsFunctionBreakpoints", "supportsGotoTargetsRequest",
         "supportsLoadedSourcesRequest", "supportsReadMemoryRequest", "supportsRestartRequest", "supportsSetVariable",
         "supportsStepBack", "supportsSteppingGranularity", "supportsTerminateRequest", "supportsWriteMemoryRequest"), True),
     "exceptionBreakpointFilters": [
@@ -92,7 +92,8 @@ START:  MVI A,'!'
 CONVERSATION = (
     ('{"seq":1,"type":"request","command":"initialize","arguments":{"adapterID":"lab80"}}',
      '{"body":{"exceptionBreakpointFilters":[{"default":true,"filter":"undefined","label":"Undefined opcodes"},'
-     '{"default":false,"filter":"halt","label":"HLT"}],"supportsConfigurationDoneRequest":true,'
+     '{"default":false,"filter":"halt","label":"HLT"}],"supportsBreakpointLocationsRequest":true,'
+     '"supportsConfigurationDoneRequest":true,'
      '"supportsDisassembleRequest":true,"supportsEvaluateForHovers":true,"supportsExceptionInfoRequest":true,'
      '"supportsFunctionBreakpoints":true,"supportsGotoTargetsRequest":true,"supportsLoadedSourcesRequest":true,'
      '"supportsReadMemoryRequest":true,"supportsRestartRequest":true,"supportsSetVariable":true,'
@@ -297,10 +298,12 @@ class Breakpoints(Session):
         editor.initialize()
         kept = editor.do("setBreakpoints", source={"path": path}, breakpoints=[{"line": SHOW}, {"line": 99}])["breakpoints"]
         self.assertEqual([(it["line"], it["verified"]) for it in kept], [(SHOW, False), (99, False)])
+        self.assertEqual({it["message"] for it in kept}, {"nothing is launched yet"})
         editor.do("launch", program=path)
         self.assertEqual(editor.event(), ("initialized", None))
-        changed = {"breakpoint": {"id": kept[0]["id"], "line": SHOW, "verified": True}, "reason": "changed"}
-        self.assertEqual(editor.event(), ("breakpoint", changed))
+        self.changes(editor, {"id": kept[0]["id"], "line": SHOW, "verified": True})
+        nowhere = {"line": 99, "message": "no code at or below line 99", "verified": False}
+        self.changes(editor, {"id": kept[1]["id"]} | nowhere)
         editor.do("configurationDone")
         self.assertEqual(editor.stop(), "breakpoint")
         self.assertEqual(editor.place(), ("SHOW", SHOW))
@@ -313,8 +316,12 @@ class Breakpoints(Session):
         numbers = [it["id"] for source in shown for it in source]
         self.assertEqual(len(set(numbers)), 6)
         editor.do("launch", program=path)
-        events = [editor.event() for _ in range(3)]
-        self.assertEqual([body["breakpoint"]["id"] for name, body in events if name == "breakpoint"], numbers[2:4])
+        self.assertEqual(editor.event(), ("initialized", None))
+        elsewhere = {"message": f"the program is {path}", "verified": False}
+        moved = {"line": 3, "verified": True}
+        for number, line, shown in zip(numbers, (1, 2) * 3, (elsewhere, elsewhere, moved, moved, elsewhere, elsewhere)):
+            message = {} if "message" in shown else {"message": f"moved from line {line}"}
+            self.changes(editor, {"id": number, "line": line} | shown | message)
 
     def test_set_anew_and_taken_away_while_it_runs(self):
         editor, path = self.editor(), self.program(ENDLESS)
@@ -351,11 +358,10 @@ class Breakpoints(Session):
         editor = self.editor()
         editor.initialize()
         shown = editor.do("setFunctionBreakpoints", breakpoints=[{"name": "SHOW"}])["breakpoints"]
-        self.assertEqual([it["verified"] for it in shown], [False])
+        self.assertEqual([(it["verified"], it["message"]) for it in shown], [(False, "nothing is launched yet")])
         editor.do("launch", program=self.count())
         self.assertEqual(editor.event()[0], "initialized")
-        changed = {"breakpoint": {"id": shown[0]["id"], "line": SHOW, "verified": True}, "reason": "changed"}
-        self.assertEqual(editor.event(), ("breakpoint", changed))
+        self.changes(editor, {"id": shown[0]["id"], "line": SHOW, "verified": True})
 
     def test_exceptions_are_none(self):
         editor = self.editor()
@@ -681,7 +687,7 @@ class Ends(Session):
             file.write(text)
         editor.do("restart")
         # The stopped run is gone.
-        self.assertEqual([name for name, _ in editor.events_to("continued")], ["breakpoint", "continued"])
+        self.assertEqual([name for name, _ in editor.events_to("continued")], ["continued"])
         self.assertEqual(editor.stop(), "breakpoint")
         self.assertEqual((editor.place(), editor.evaluate("B")), (("SHOW", SHOW), "002H"))
         editor.set_breakpoints(path, [])

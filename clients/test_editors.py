@@ -52,7 +52,7 @@ output: "39"
 
 # Kate's requests in its session, except those for its display.
 ASKED_BY_KATE = ["initialize", "launch", "setBreakpoints", "configurationDone", "evaluate", "next", "stepOut", "stepIn", "continue",
-                 "setBreakpoints", "continue", "continue", "disconnect"]
+                 "setBreakpoints", "continue", "evaluate", "evaluate", "next", "continue", "continue", "disconnect"]
 SHOWING = ("threads", "stackTrace", "scopes", "variables")
 
 
@@ -122,12 +122,18 @@ class Kate(Session):
         window.do(kate.CONTINUE, "stopped at the breakpoint again", stops(5))
         window.do(kate.BREAKPOINT, "no breakpoints", lambda: window.asked()[-1]["command"] == "setBreakpoints")
         window.do(kate.CONTINUE, "held at its end", stops(6))
+        window.type("print back start", "stopped at its start", stops(7))
+        self.assertEqual(line(), ("main", 3))
+        window.type("print back 1", "an answer", lambda: window.said()[-1].get("message") == "the run begins here")
+        window.do(kate.STEP_OVER, "a step", stops(8))
+        self.assertEqual(line(), ("main", 4))
+        window.do(kate.CONTINUE, "held at its end again", stops(9))
         window.choose(kate.CONTINUE)
         kate.wait_for("its end", lambda: window.asked()[-1]["command"] == "disconnect")
         self.assertEqual([it["command"] for it in window.asked() if it["command"] not in SHOWING], ASKED_BY_KATE)
         self.assertEqual("".join(body["output"] for body in window.events("output")), "321")
         self.assertEqual(window.events("exited"), [{"exitCode": 0}])
-        self.assertEqual([it for it in window.said() if it.get("success") is False], [])
+        self.assertEqual([it["message"] for it in window.said() if it.get("success") is False], ["the run begins here"])
 
 
 class VisualStudioCode(unittest.TestCase):
@@ -171,7 +177,7 @@ class VisualStudioCode(unittest.TestCase):
     def test_a_launch_has_the_debuggers_arguments(self):
         self.assertEqual({name: it["type"] for name, it in self.attributes().items()}, {
             "program": "string", "stopOnEntry": "boolean", "noDebug": "boolean", "aliases": "boolean", "switches": "integer",
-            "input": "string", "stopAtEnd": "boolean"})
+            "input": "string", "stopAtEnd": "boolean", "watchCommands": "boolean"})
         for each in self.attributes().values():
             self.assertLessEqual(set(each), {"type", "description", "default", "minimum", "maximum"})
 
@@ -229,14 +235,92 @@ class Grammar(unittest.TestCase):
             self.assertEqual(self.coloured(line), parts, line)
 
 
-class Configurations(unittest.TestCase):
-    """The files in editors/ for other editors are readable, and name the debugger."""
+# Loads Neovim's file in place of nvim-dap, and prints what it says to it, each function by what it gives.
+IN_NEOVIM = """\
+local dap = { adapters = {}, configurations = {} }
+package.preload.dap = function() return dap end
+vim.fn.input = function(prompt) return prompt:find("Switches") and "5" or "go" end
+dofile(vim.env.LAB80_EDITORS .. "/nvim/lab80.lua")
+for _, each in ipairs(dap.configurations.asm) do
+  for name, value in pairs(each) do
+    each[name] = type(value) == "function" and value() or value
+  end
+end
+io.stdout:write(vim.json.encode(dap))
+"""
+
+# Loads the file for dape in its place, and prints what it says to it.
+IN_DAPE = """\
+(require 'cl-lib)
+(require 'json)
+(setq dape-configs nil)
+(provide 'dape)
+(load (expand-file-name "emacs/lab80-dape.el" (getenv "LAB80_EDITORS")) nil t)
+(find-file "count.asm")
+(dolist (each (reverse dape-configs))
+  (let ((told (cl-loop for (key value) on (cdr each) by #'cddr
+                       collect (cons key (if (functionp value) (funcall value) value)))))
+    (princ (concat (json-encode told) "\\n"))))
+"""
+
+# What the launches of each of these editors add to the program, and that it is kept at its end.
+FIRST_LINE, ALIASES = {"stopOnEntry": True}, {"aliases": True}
+TYPED = {"switches": 5, "input": "go\r"}
+
+
+class Launches(Session):
+    """The launches that the files for Vim, Neovim and dape offer. The debugger must take each of them."""
+
+    def take(self, launches, path, added):
+        self.assertEqual([it for it in launches if it["request"] != "launch" or it["program"] != path], [])
+        shared = {"request": "launch", "program": path, "stopAtEnd": True}
+        said = [{name: it[name] for name in it if name not in ("type", "name")} for it in launches]
+        self.assertEqual(said, [shared | each for each in added])
+        for each in said:
+            del each["request"]
+            self.editor().launch(each.pop("program"), **each)
 
     def test_vim(self):
-        read = read_json("vim", "vimspector.json")
-        self.assertEqual(read["adapters"]["lab80"]["command"], ["lab80-dap"])
+        path, read = self.count(), read_json("vim", "vimspector.json")
+        self.assertEqual(read["adapters"], {"lab80": {"name": "lab80", "command": ["lab80-dap"]}})
+        launches = []
         for each in read["configurations"].values():
-            self.assertIn(each["adapter"], read["adapters"])
+            self.assertEqual((each["adapter"], each["filetypes"]), ("lab80", ["asm"]))
+            self.assertEqual(each["breakpoints"], {"exception": {"undefined": "Y", "halt": "N"}})
+            launch = each["configuration"] | {"program": each["configuration"]["program"].replace("${file}", path)}
+            if "switches#json" in launch:
+                self.assertEqual((launch.pop("switches#json"), launch["input"]), ("${Switches:0}", "${Input}\r"))
+                launch |= TYPED
+            launches.append(launch)
+        self.take(launches, path, ({}, FIRST_LINE, ALIASES, TYPED))
+
+    def test_neovim(self):
+        if not shutil.which("nvim"):
+            self.skipTest("Neovim isn't here: neovim")
+        path, script = self.count(), self.program(IN_NEOVIM, "script.lua")
+        told = self.printed("nvim", "--headless", "-u", "NONE", "-i", "NONE", "-c", f"luafile {script}", "-c", "qa!")
+        read = json.loads(told)
+        self.assertEqual(read["adapters"], {"lab80": {"type": "executable", "command": "lab80-dap"}})
+        launches = [it | {"program": it["program"].replace("${file}", path)} for it in read["configurations"]["asm"]]
+        self.take(launches, path, ({}, FIRST_LINE, ALIASES, TYPED))
+
+    def test_dape(self):
+        if not shutil.which("emacs"):
+            self.skipTest("Emacs isn't here: emacs-nox")
+        path, script = self.count(), self.program(IN_DAPE, "script.el")
+        launches = [json.loads(line) for line in self.printed("emacs", "-Q", "--batch", "-l", script).splitlines()]
+        for each in launches:
+            self.assertEqual((each.pop("modes"), each.pop("command")), (["asm-mode"], "lab80-dap"))
+        self.take(launches, path, ({}, FIRST_LINE, ALIASES))
+
+    def printed(self, *words):
+        environment = os.environ | {"HOME": self.folder, "LAB80_EDITORS": EDITORS}
+        done = subprocess.run(words, cwd=self.folder, env=environment, capture_output=True, text=True, timeout=80, check=True)
+        return done.stdout
+
+
+class Configurations(unittest.TestCase):
+    """The files in editors/ for other editors are readable, and name the debugger."""
 
     def test_helix(self):
         with open(os.path.join(EDITORS, "helix/languages.toml"), "rb") as file:

@@ -14,6 +14,7 @@ const LETTER: &str = r#"
 > {"seq":1,"type":"request","command":"initialize"}
 < {"body":{"exceptionBreakpointFilters":[{"default":true,"filter":"undefined",
     "label":"Undefined opcodes"},{"default":false,"filter":"halt","label":"HLT"}],
+    "supportsBreakpointLocationsRequest":true,
     "supportsConfigurationDoneRequest":true,"supportsDisassembleRequest":true,
     "supportsEvaluateForHovers":true,"supportsExceptionInfoRequest":true,
     "supportsFunctionBreakpoints":true,"supportsGotoTargetsRequest":true,
@@ -43,6 +44,7 @@ const LOOP: &str = r#"
 > {"seq":2,"type":"request","command":"initialize"}
 < {"body":{"exceptionBreakpointFilters":[{"default":true,"filter":"undefined",
     "label":"Undefined opcodes"},{"default":false,"filter":"halt","label":"HLT"}],
+    "supportsBreakpointLocationsRequest":true,
     "supportsConfigurationDoneRequest":true,"supportsDisassembleRequest":true,
     "supportsEvaluateForHovers":true,"supportsExceptionInfoRequest":true,
     "supportsFunctionBreakpoints":true,"supportsGotoTargetsRequest":true,
@@ -71,6 +73,7 @@ const BACK: &str = r#"
 > {"seq":1,"type":"request","command":"initialize"}
 < {"body":{"exceptionBreakpointFilters":[{"default":true,"filter":"undefined",
     "label":"Undefined opcodes"},{"default":false,"filter":"halt","label":"HLT"}],
+    "supportsBreakpointLocationsRequest":true,
     "supportsConfigurationDoneRequest":true,"supportsDisassembleRequest":true,
     "supportsEvaluateForHovers":true,"supportsExceptionInfoRequest":true,
     "supportsFunctionBreakpoints":true,"supportsGotoTargetsRequest":true,
@@ -136,6 +139,7 @@ const SEARCH: &str = r#"
 > {"seq":2,"type":"request","command":"initialize"}
 < {"body":{"exceptionBreakpointFilters":[{"default":true,"filter":"undefined",
     "label":"Undefined opcodes"},{"default":false,"filter":"halt","label":"HLT"}],
+    "supportsBreakpointLocationsRequest":true,
     "supportsConfigurationDoneRequest":true,"supportsDisassembleRequest":true,
     "supportsEvaluateForHovers":true,"supportsExceptionInfoRequest":true,
     "supportsFunctionBreakpoints":true,"supportsGotoTargetsRequest":true,

@@ -2,9 +2,10 @@
 use Rattle.std.proofs.Common.{◌≤◌, ℕ, ◌==◌, if◌then◌else◌, Bool, true, false, Option, Some, None}
 use Rattle.std.proofs.Common.{List, [], ◌∷◌, ◌++◌, codes, refl, arith}
 use Rattle.serde_json.specs.Data.{boolean, string, depth}
-use Rattle.dap_answers.specs.Json.{object_of, whole_number, reference}
+use Rattle.dap_answers.specs.Json.{object_of, whole_number, reference, line_json}
 use Rattle.dap_answers.specs.declared.answer.Event.TheVariants as board
 use Rattle.dap_answers.proofs.DepthLemmas.{fits, items_within, body_is_shallow, event_is_shallow}
+use Rattle.dap_editor.specs.declared.message.BreakpointNote.{BreakpointNote}
 use Rattle.dap_editor.specs.declared.message.PlacedBreakpoint.{PlacedBreakpoint}
 use Rattle.dap_editor.specs.declared.message.EditorBody.{EditorBody}
 use Rattle.dap_editor.specs.declared.message.EditorBody.TheVariants as body
@@ -18,18 +19,20 @@ use Rattle.dap_editor.specs.declared.message.EditorEvent.{EditorEvent}
 use Rattle.dap_editor.specs.declared.message.EditorEvent.TheVariants as event
 use Rattle.dap_editor.specs.declared.message.Message.{Message}
 use Rattle.dap_editor.specs.declared.message.Message.TheVariants.{Response, Event}
-use Rattle.dap_editor.specs.Json.{line_members, placed_json, source_json, data_members, editor_body_json}
-use Rattle.dap_editor.specs.Json.{outcome_json, stopped_json, output_json, editor_event_json}
-use Rattle.dap_editor.specs.Json.{message_json}
+use Rattle.dap_editor.specs.Json.{line_members, note_members, placed_json, source_json, data_members}
+use Rattle.dap_editor.specs.Json.{editor_body_json, outcome_json, stopped_json, output_json}
+use Rattle.dap_editor.specs.Json.{editor_event_json, message_json}
 
-placed_by : (id : ℕ) (line : Option ℕ) (is_verified : Bool) → depth (object_of (
-    (codes "id", whole_number id) ∷ line_members line ++
-    (codes "verified", boolean is_verified) ∷ [])) ≤ 1
-placed_by id None is_verified = fits _ 1 refl
-placed_by id (Some line) is_verified = fits _ 1 refl
+placed_by : (id : ℕ) (line : Option ℕ) (note : Option BreakpointNote) (is_verified : Bool)
+    → depth (object_of ((codes "id", whole_number id) ∷ line_members line ++ (note_members note ++
+    (codes "verified", boolean is_verified) ∷ []))) ≤ 1
+placed_by id None None is_verified = fits _ 1 refl
+placed_by id None (Some note) is_verified = fits _ 1 refl
+placed_by id (Some line) None is_verified = fits _ 1 refl
+placed_by id (Some line) (Some note) is_verified = fits _ 1 refl
 
 placed : (b : PlacedBreakpoint) → depth (placed_json b) ≤ 1
-placed b = placed_by b.id b.line b.is_verified
+placed b = placed_by b.id b.line b.note b.is_verified
 
 counted : (address : ℕ) (bytes : List ℕ) (none : Bool) (count : ℕ)
     → depth (object_of ((codes "address", string (reference address)) ∷ data_members bytes ++
@@ -43,6 +46,8 @@ in_body : (b : EditorBody) → depth (editor_body_json b) ≤ 5
 in_body (body.Board b) = body_is_shallow b
 in_body (body.Breakpoints bs) =
     let h = items_within 1 placed_json placed bs in omega (arith, h)
+in_body (body.Locations lines) =
+    let h = items_within 1 line_json (λ line. fits _ 1 refl) lines in omega (arith, h)
 in_body (body.Memory address bytes count) = counted address bytes (count == 0) count
 in_body (body.Sources paths) =
     let h = items_within 1 source_json (λ path. fits _ 1 refl) paths in omega (arith, h)

@@ -3,9 +3,10 @@ use Rattle.std.proofs.Common.{◌≡◌, ℕ, ◌==◌, if◌then◌else◌, Boo
 use Rattle.std.proofs.Common.{List, [], ◌∷◌, ◌++◌, codes, refl}
 use Rattle.serde_json.specs.Data.{Data, boolean, string}
 use Rattle.serde_json.specs.Written.{has_float}
-use Rattle.dap_answers.specs.Json.{object_of, whole_number, reference}
+use Rattle.dap_answers.specs.Json.{object_of, whole_number, reference, line_json}
 use Rattle.dap_answers.specs.declared.answer.Event.TheVariants as board
 use Rattle.dap_answers.proofs.FloatLemmas.{no_float_in, body_has_no_float, event_has_no_float}
+use Rattle.dap_editor.specs.declared.message.BreakpointNote.{BreakpointNote}
 use Rattle.dap_editor.specs.declared.message.PlacedBreakpoint.{PlacedBreakpoint}
 use Rattle.dap_editor.specs.declared.message.EditorBody.{EditorBody}
 use Rattle.dap_editor.specs.declared.message.EditorBody.TheVariants as body
@@ -19,18 +20,20 @@ use Rattle.dap_editor.specs.declared.message.EditorEvent.{EditorEvent}
 use Rattle.dap_editor.specs.declared.message.EditorEvent.TheVariants as event
 use Rattle.dap_editor.specs.declared.message.Message.{Message}
 use Rattle.dap_editor.specs.declared.message.Message.TheVariants.{Response, Event}
-use Rattle.dap_editor.specs.Json.{line_members, placed_json, source_json, data_members, editor_body_json}
-use Rattle.dap_editor.specs.Json.{outcome_json, stopped_json, output_json, editor_event_json}
-use Rattle.dap_editor.specs.Json.{message_json}
+use Rattle.dap_editor.specs.Json.{line_members, note_members, placed_json, source_json, data_members}
+use Rattle.dap_editor.specs.Json.{editor_body_json, outcome_json, stopped_json, output_json}
+use Rattle.dap_editor.specs.Json.{editor_event_json, message_json}
 
-placed_by : (id : ℕ) (line : Option ℕ) (is_verified : Bool) → has_float (object_of (
-    (codes "id", whole_number id) ∷ line_members line ++
-    (codes "verified", boolean is_verified) ∷ [])) ≡ false
-placed_by id None is_verified = refl
-placed_by id (Some line) is_verified = refl
+placed_by : (id : ℕ) (line : Option ℕ) (note : Option BreakpointNote) (is_verified : Bool)
+    → has_float (object_of ((codes "id", whole_number id) ∷ line_members line ++ (note_members note ++
+    (codes "verified", boolean is_verified) ∷ []))) ≡ false
+placed_by id None None is_verified = refl
+placed_by id None (Some note) is_verified = refl
+placed_by id (Some line) None is_verified = refl
+placed_by id (Some line) (Some note) is_verified = refl
 
 placed : (b : PlacedBreakpoint) → has_float (placed_json b) ≡ false
-placed b = placed_by b.id b.line b.is_verified
+placed b = placed_by b.id b.line b.note b.is_verified
 
 counted : (a : Data) (bytes : List ℕ) (none : Bool) (count : ℕ) → has_float a ≡ false
     → has_float (object_of ((codes "address", a) ∷ data_members bytes ++
@@ -43,6 +46,7 @@ counted a (byte ∷ bytes) false count is = rw is refl
 in_body : (b : EditorBody) → has_float (editor_body_json b) ≡ false
 in_body (body.Board b) = body_has_no_float b
 in_body (body.Breakpoints bs) = rw (no_float_in placed_json placed bs) refl
+in_body (body.Locations lines) = rw (no_float_in line_json (λ line. refl) lines) refl
 in_body (body.Memory address bytes count) =
     counted (string (reference address)) bytes (count == 0) count refl
 in_body (body.Sources paths) = rw (no_float_in source_json (λ path. refl) paths) refl

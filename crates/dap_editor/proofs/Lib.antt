@@ -1,6 +1,6 @@
 pub mod FloatLemmas
 pub mod DepthLemmas
 pub mod GranularityLemmas
-pub mod FunctionLemmas
+pub mod ListLemmas
 pub mod PathLemmas
 pub mod Base64Lemmas

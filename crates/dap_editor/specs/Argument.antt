@@ -15,11 +15,12 @@ use Rattle.std.specs.Prelude.{
   [],
   ◌∷◌,
   Bool,
+  true,
   false,
   Option,
   Some,
   None,
-  is_none,
+  is_some,
   option_map,
   option_and_then,
   unwrap_or,
@@ -30,15 +31,18 @@ use Rattle.base_text.specs.Bytes.{Bytes, Text}
 use Rattle.base64.specs.Engines.{standard}
 use Rattle.base64.specs.GeneralPurpose.{decoded_of}
 use Rattle.serde_json.specs.Data.{Data, Items, no_items, item}
-use Rattle.serde_json.specs.Find.{get, as_number, as_i64, as_str, as_array}
+use Rattle.serde_json.specs.Find.{get, as_number, as_i64, as_str, as_array, as_null}
 use Rattle.lab_shown.specs.declared.step.Granularity.{Granularity}
 use Rattle.dap_talk.specs.Argument.{granularity_of}
 use Rattle.dap_talk.specs.Argument.{argument_at, at_most_256, address_of, text_at, when_between}
+use Rattle.dap_talk.specs.Argument.{whole_between}
 use Rattle.dap_editor.specs.declared.request.SignedOffset.{SignedOffset}
 use Rattle.dap_editor.specs.declared.request.SignedOffset.TheVariants.{Forward, Back}
 use Rattle.dap_editor.specs.declared.request.ExceptionFilters.{ExceptionFilters}
 use Rattle.dap_editor.specs.declared.request.EvaluateContext.{EvaluateContext}
-use Rattle.dap_editor.specs.declared.request.EvaluateContext.TheVariants.{Repl, Other}
+use Rattle.dap_editor.specs.declared.request.EvaluateContext.TheVariants.{Repl, Watch, Other}
+use Rattle.dap_editor.specs.declared.request.LineBreakpoint.{LineBreakpoint}
+use Rattle.dap_editor.specs.declared.request.FunctionBreakpoint.{FunctionBreakpoint}
 
 -- ---- where they stand
 
@@ -74,9 +78,11 @@ abbrev pub IsBackWithin : ℕ → SignedOffset → Type 0
 IsBackWithin limit (Forward n) = Unit {0}
 IsBackWithin limit (Back n) = n ≤ limit
 
--- `repl`, or any other text
+-- `repl`, `watch`, or any other text
 abbrev pub context_named : Text → EvaluateContext
-context_named name = if bytes_eq name (codes "repl") then Repl else Other
+context_named name =
+    if bytes_eq name (codes "repl") then Repl
+    else if bytes_eq name (codes "watch") then Watch else Other
 
 abbrev pub context : Data → Option EvaluateContext
 context d = option_map context_named (as_str d)
@@ -107,27 +113,43 @@ filters_in ds = record {
 abbrev pub filters : Data → Option ExceptionFilters
 filters d = option_map filters_in (as_array d)
 
--- ---- breakpoints at functions
+-- ---- breakpoints
 
--- conditions and hit counts aren't supported, whatever their values are
-abbrev pub is_unconditional : Data → Bool
-is_unconditional d = is_none (get (codes "condition") d) && is_none (get (codes "hitCondition") d)
+-- absent, `null` or an empty text
+abbrev pub is_unset : Option Data → Bool
+is_unset None = true
+is_unset (Some d) = is_some (as_null d) || is_text [] d
 
--- the function that a breakpoint is on
-abbrev pub function_of : Data → Option Text
-function_of d = if is_unconditional d then text_at (codes "name") d else None
+-- without a condition, a hit count and a log message, which aren't supported
+abbrev pub is_plain : Data → Bool
+is_plain d =
+    is_unset (get (codes "condition") d)
+    && (is_unset (get (codes "hitCondition") d) && is_unset (get (codes "logMessage") d))
 
-abbrev pub functions_of : Items → Option (List Text)
-functions_of no_items = Some []
-functions_of (item d ds) =
-    option_and_then (λ name. option_map (λ names. name ∷ names) (functions_of ds)) (function_of d)
+-- on a line
+abbrev pub line_of : Data → Option LineBreakpoint
+line_of d =
+    option_map (λ n. record { line = n; is_plain = is_plain d })
+    (option_and_then (whole_between 0 4294967295) (get (codes "line") d))
+
+-- at a label
+abbrev pub function_of : Data → Option FunctionBreakpoint
+function_of d = option_map (λ text. record { name = text; is_plain = is_plain d }) (text_at (codes "name") d)
+
+-- what each is, if each is one
+abbrev pub all_of : {T : Type 0} → (Data → Option T) → Items → Option (List T)
+all_of kind no_items = Some []
+all_of kind (item d ds) = option_and_then (λ x. option_map (λ xs. x ∷ xs) (all_of kind ds)) (kind d)
 
 -- at most 256 of them
 abbrev pub breakpoints : Data → Option Items
 breakpoints d = option_and_then at_most_256 (as_array d)
 
-abbrev pub functions : Data → Option (List Text)
-functions d = option_and_then functions_of (breakpoints d)
+abbrev pub lines : Data → Option (List LineBreakpoint)
+lines d = option_and_then (all_of line_of) (breakpoints d)
+
+abbrev pub functions : Data → Option (List FunctionBreakpoint)
+functions d = option_and_then (all_of function_of) (breakpoints d)
 
 -- the bytes that a text has in base64 (RFC 4648, section 4: the standard alphabet, padded)
 unfoldable pub bytes_of : Text → Option Bytes

@@ -18,6 +18,7 @@ use Rattle.std.specs.Prelude.{
   option_to_list,
   unwrap_or,
   codes,
+  decimal,
 }
 use Rattle.std.specs.Path.{slash, rsplit_once}
 use Rattle.base_text.specs.Bytes.{Bytes, Text}
@@ -28,8 +29,11 @@ use Rattle.base64.specs.GeneralPurpose.{encode_of}
 use Rattle.serde_json.specs.Data.{Data, array, boolean, string}
 use Rattle.serde_json.specs.View.{items_of}
 use Rattle.dap_answers.specs.declared.answer.Event.TheVariants as board
-use Rattle.dap_answers.specs.Json.{object_of, whole_number, list_of, one_list, reference, body_json}
+use Rattle.dap_answers.specs.Json.{object_of, whole_number, list_of, one_list, reference, line_json}
+use Rattle.dap_answers.specs.Json.{body_json}
 use Rattle.dap_answers.specs.Json.{bare_response, refusal_json, bare_event, event_with_body, event_json}
+use Rattle.dap_editor.specs.declared.message.BreakpointNote.{BreakpointNote}
+use Rattle.dap_editor.specs.declared.message.BreakpointNote.TheVariants as note
 use Rattle.dap_editor.specs.declared.message.PlacedBreakpoint.{PlacedBreakpoint}
 use Rattle.dap_editor.specs.declared.message.UndefinedOpcode.{UndefinedOpcode}
 use Rattle.dap_editor.specs.declared.message.GotoTarget.{GotoTarget}
@@ -55,10 +59,23 @@ abbrev pub line_members : Option ℕ → List (Text × Data)
 line_members None = []
 line_members (Some line) = (codes "line", whole_number line) ∷ []
 
+abbrev pub note_text : BreakpointNote → Text
+note_text (note.Moved from) = codes "moved from line " ++ decimal from
+note_text (note.NoCode line) = codes "no code at or below line " ++ decimal line
+note_text note.NotLaunched = codes "nothing is launched yet"
+note_text (note.OtherProgram path) = codes "the program is " ++ path
+note_text note.Conditional = codes "conditions, hit counts and log messages are not supported"
+note_text note.NoLabel = codes "the program has no such label"
+note_text note.TooMany = codes "more than 256 breakpoints"
+
+abbrev pub note_members : Option BreakpointNote → List (Text × Data)
+note_members None = []
+note_members (Some n) = (codes "message", string (note_text n)) ∷ []
+
 abbrev pub placed_json : PlacedBreakpoint → Data
 placed_json b = object_of (
-    (codes "id", whole_number b.id) ∷ line_members b.line ++
-    (codes "verified", boolean b.is_verified) ∷ [])
+    (codes "id", whole_number b.id) ∷ line_members b.line ++ (note_members b.note ++
+    (codes "verified", boolean b.is_verified) ∷ []))
 
 -- the part of a path after its last `/`, or all of it
 abbrev pub last_part : Text → Text
@@ -114,6 +131,7 @@ filters_json = array (items_of (undefined_filter ∷ halt_filter ∷ []))
 abbrev pub capabilities_json : Data
 capabilities_json = object_of (
     (codes "exceptionBreakpointFilters", filters_json) ∷
+    can (codes "supportsBreakpointLocationsRequest") ∷
     can (codes "supportsConfigurationDoneRequest") ∷
     can (codes "supportsDisassembleRequest") ∷
     can (codes "supportsEvaluateForHovers") ∷
@@ -156,6 +174,7 @@ abbrev pub editor_body_json : EditorBody → Data
 editor_body_json (body.Board b) = body_json b
 editor_body_json body.Capabilities = capabilities_json
 editor_body_json (body.Breakpoints bs) = one_list (codes "breakpoints") placed_json bs
+editor_body_json (body.Locations lines) = one_list (codes "breakpoints") line_json lines
 editor_body_json (body.Exception u) = exception_json u
 editor_body_json (body.Evaluation text) = evaluation_json text
 editor_body_json (body.Memory address bytes unreadable) = memory_json address bytes unreadable

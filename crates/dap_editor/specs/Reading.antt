@@ -84,7 +84,8 @@ editor_request d = request_in d (envelope_of d)
 -- ---- the bounds that every request has that was read
 
 abbrev pub IsCommandBounded : EditorCommand → Type 0
-IsCommandBounded (command.SetFunctionBreakpoints names) = length names ≤ 256
+IsCommandBounded (command.SetBreakpoints path lines) = length lines ≤ 256
+IsCommandBounded (command.SetFunctionBreakpoints functions) = length functions ≤ 256
 IsCommandBounded (command.WriteMemory to offset bytes) = length bytes ≤ 65536
 IsCommandBounded (command.Disassemble from offset instructions count) =
     (1 ≤ count) × (count ≤ 1024) × IsBackWithin 65536 instructions

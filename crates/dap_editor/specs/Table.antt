@@ -16,15 +16,17 @@ use Rattle.dap_editor.specs.declared.request.EvaluateContext.TheVariants.{Other}
 use Rattle.dap_editor.specs.declared.request.EditorCommand.{EditorCommand}
 use Rattle.dap_editor.specs.declared.request.EditorCommand.TheVariants as command
 use Rattle.dap_editor.specs.Argument.{required_argument, optional, address, shift, context, functions, base64}
-use Rattle.dap_editor.specs.Argument.{granularity, filters, no_filters}
+use Rattle.dap_editor.specs.Argument.{granularity, filters, no_filters, lines}
 
 abbrev pub spelling_of : EditorName → Text
 spelling_of name.Initialize = codes "initialize"
 spelling_of name.Launch = codes "launch"
 spelling_of name.Restart = codes "restart"
 spelling_of name.Terminate = codes "terminate"
+spelling_of name.SetBreakpoints = codes "setBreakpoints"
 spelling_of name.SetFunctionBreakpoints = codes "setFunctionBreakpoints"
 spelling_of name.SetExceptionBreakpoints = codes "setExceptionBreakpoints"
+spelling_of name.BreakpointLocations = codes "breakpointLocations"
 spelling_of name.ExceptionInfo = codes "exceptionInfo"
 spelling_of name.Evaluate = codes "evaluate"
 spelling_of name.ReadMemory = codes "readMemory"
@@ -74,6 +76,7 @@ launch_asked d =
     optional (codes "aliases") as_bool false d then_with λ has_aliases.
     optional (codes "switches") byte 0 d then_with λ switches.
     optional (codes "input") as_str [] d then_with λ input.
+    optional (codes "watchCommands") as_bool false d then_with λ has_watch_commands.
     Some (command.Launch (record {
       program = program;
       stops_on_entry = stops_on_entry;
@@ -82,7 +85,27 @@ launch_asked d =
       has_aliases = has_aliases;
       switches = switches;
       input = input;
+      has_watch_commands = has_watch_commands;
     }))
+
+-- the path of a source
+abbrev pub source : Data → Option Text
+source = required_argument (codes "source") (text_at (codes "path"))
+
+-- no list of breakpoints is an empty one
+abbrev pub set_breakpoints_asked : Data → Option EditorCommand
+set_breakpoints_asked d =
+    source d then_with λ path.
+    optional (codes "breakpoints") lines [] d then_with λ breakpoints.
+    Some (command.SetBreakpoints path breakpoints)
+
+-- the last line is the first one if it is absent
+abbrev pub breakpoint_locations_asked : Data → Option EditorCommand
+breakpoint_locations_asked d =
+    source d then_with λ path.
+    required_argument (codes "line") any_number d then_with λ first.
+    optional (codes "endLine") any_number first d then_with λ last.
+    Some (command.BreakpointLocations path first last)
 
 abbrev pub evaluate_asked : Data → Option EditorCommand
 evaluate_asked d =
@@ -114,7 +137,7 @@ disassemble_asked d =
 
 abbrev pub goto_targets_asked : Data → Option EditorCommand
 goto_targets_asked d =
-    required_argument (codes "source") (text_at (codes "path")) d then_with λ path.
+    source d then_with λ path.
     required_argument (codes "line") any_number d then_with λ line.
     Some (command.GotoTargets path line)
 
@@ -124,10 +147,12 @@ command_asked name.Initialize d = initialize_asked d
 command_asked name.Launch d = launch_asked d
 command_asked name.Restart d = Some command.Restart
 command_asked name.Terminate d = Some command.Terminate
+command_asked name.SetBreakpoints d = set_breakpoints_asked d
 command_asked name.SetFunctionBreakpoints d =
     option_map command.SetFunctionBreakpoints (required_argument (codes "breakpoints") functions d)
 command_asked name.SetExceptionBreakpoints d =
     option_map command.SetExceptionBreakpoints (optional (codes "filters") filters no_filters d)
+command_asked name.BreakpointLocations d = breakpoint_locations_asked d
 command_asked name.ExceptionInfo d = Some command.ExceptionInfo
 command_asked name.Evaluate d = evaluate_asked d
 command_asked name.ReadMemory d = read_memory_asked d
@@ -144,10 +169,10 @@ command_asked name.Goto d = option_map command.Goto (required_argument (codes "t
 
 abbrev pub every_name : List EditorName
 every_name =
-    name.Initialize ∷ name.Launch ∷ name.Restart ∷ name.Terminate ∷ name.SetFunctionBreakpoints ∷
-    name.SetExceptionBreakpoints ∷ name.ExceptionInfo ∷ name.Evaluate ∷ name.ReadMemory ∷ name.WriteMemory ∷
-    name.Disassemble ∷ name.LoadedSources ∷ name.StepBack ∷ name.ReverseContinue ∷ name.GotoTargets ∷
-    name.Goto ∷ []
+    name.Initialize ∷ name.Launch ∷ name.Restart ∷ name.Terminate ∷ name.SetBreakpoints ∷
+    name.SetFunctionBreakpoints ∷ name.SetExceptionBreakpoints ∷ name.BreakpointLocations ∷
+    name.ExceptionInfo ∷ name.Evaluate ∷ name.ReadMemory ∷ name.WriteMemory ∷ name.Disassemble ∷
+    name.LoadedSources ∷ name.StepBack ∷ name.ReverseContinue ∷ name.GotoTargets ∷ name.Goto ∷ []
 
 -- the first of these names that is spelled like the text
 abbrev pub first_named : List EditorName → Text → Option EditorName

@@ -1,7 +1,7 @@
 //! The arguments of an editor's request, one function for each type.
 ghost use Rattle.std.specs.Prelude.{◌≡◌, ◌≤◌, IfOk, IfSome, [], false, length, option_map, option_and_then};
 ghost use Rattle.std.specs.Prelude.{codes};
-ghost use Rattle.serde_json.specs.Find.{as_str, as_bool, as_array};
+ghost use Rattle.serde_json.specs.Find.{get, as_str, as_bool, as_array};
 ghost use Rattle.serde_json.specs.View.{view, items_view};
 ghost use Rattle.lab_shown.specs.declared.step.Granularity.TheVariants.{Line};
 ghost use Rattle.dap_talk.specs.Argument.{text_at, whole_between, at_most_256};
@@ -9,11 +9,13 @@ ghost use Rattle.dap_editor.specs.Answer.{Answers};
 ghost use Rattle.dap_editor.specs.Argument.{required_argument, optional, address, IsBackWithin};
 ghost use Rattle.dap_editor.specs.Argument.{shift_within, shift};
 ghost use Rattle.dap_editor.specs.Argument.{context, granularity, is_text, has_text, filters, no_filters};
-ghost use Rattle.dap_editor.specs.Argument.{is_unconditional, function_of, functions_of};
-ghost use Rattle.dap_editor.specs.Argument.{breakpoints, functions, bytes_of, base64};
+ghost use Rattle.dap_editor.specs.Argument.{is_unset, is_plain, line_of, function_of, all_of};
+ghost use Rattle.dap_editor.specs.Argument.{breakpoints, lines, functions, bytes_of, base64};
 ghost use Rattle.dap_editor.specs.Table.{byte, word, any_number, offset, memory_reference};
 
-use crate::request::{EvaluateContext, ExceptionFilters, SignedOffset};
+use crate::request::{
+    EvaluateContext, ExceptionFilters, FunctionBreakpoint, LineBreakpoint, SignedOffset,
+};
 use base_text::sequence::{Bytes, Sequence};
 use base_text::text::Text;
 use base64::DecodeAllocError;
@@ -74,6 +76,16 @@ pub fn number_at(request: &Value, key: &str) -> Option<u32>
     ensures { result ≡ required_argument key.now any_number (view request.now) }
 {
     whole_between(argument_at(request, key)??, 0, u32::MAX)
+}
+
+/// A whole number of 32 bits, and this one if it is absent.
+pub fn number_or(request: &Value, key: &str, absent: u32) -> Option<u32>
+    ensures { result ≡ optional key.now any_number absent (view request.now) }
+{
+    match argument_at(request, key)? {
+        None => Some(absent),
+        Some(value) => whole_between(value, 0, u32::MAX),
+    }
 }
 
 /// A required whole number of 16 bits.
@@ -137,10 +149,10 @@ pub fn offset(request: &Value) -> Option<SignedOffset>
 fn context_of(value: &Value) -> Option<EvaluateContext>
     ensures { result ≡ context (view value.now) }
 {
-    if value.as_str()? == "repl" {
-        Some(EvaluateContext::Repl)
-    } else {
-        Some(EvaluateContext::Other)
+    match value.as_str()? {
+        "repl" => Some(EvaluateContext::Repl),
+        "watch" => Some(EvaluateContext::Watch),
+        _ => Some(EvaluateContext::Other),
     }
 }
 
@@ -205,31 +217,67 @@ pub fn filters_or_none(request: &Value) -> Option<ExceptionFilters>
     }
 }
 
-fn is_unconditional(breakpoint: &Value) -> bool
-    ensures { result ≡ is_unconditional (view breakpoint.now) }
+fn is_unset(breakpoint: &Value, key: &str) -> bool
+    ensures { result ≡ is_unset (get key.now (view breakpoint.now)) }
 {
-    breakpoint.get("condition").is_none() && breakpoint.get("hitCondition").is_none()
-}
-
-fn function_of(breakpoint: &Value) -> Option<&str>
-    ensures { option_map (λ name. name.now) result ≡ function_of (view breakpoint.now) }
-{
-    if !is_unconditional(breakpoint) {
-        return None;
+    match breakpoint.get(key) {
+        None => true,
+        Some(value) => value.is_null() || is_text(value, ""),
     }
-    members::text_at(breakpoint, "name")
 }
 
-fn functions_of(alloc: Global, breakpoints: &[Value]) -> Result<Sequence<Text>, ArgumentFault>
-    ensures answer { Answers (functions_of (items_view breakpoints.now)) result }
-    ensures count { IfOk result (λ names. length names ≡ length breakpoints.now) }
+fn is_plain(breakpoint: &Value) -> bool
+    ensures { result ≡ is_plain (view breakpoint.now) }
 {
-    let mut names = Sequence::new(alloc);
+    is_unset(breakpoint, "condition")
+        && is_unset(breakpoint, "hitCondition")
+        && is_unset(breakpoint, "logMessage")
+}
+
+fn line_of(breakpoint: &Value) -> Option<LineBreakpoint>
+    ensures { result ≡ line_of (view breakpoint.now) }
+{
+    let line = whole_between(breakpoint.get("line")?, 0, u32::MAX)?;
+    Some(LineBreakpoint {
+        line,
+        is_plain: is_plain(breakpoint),
+    })
+}
+
+fn lines_of(alloc: Global, breakpoints: &[Value]) -> Result<Sequence<LineBreakpoint>, ArgumentFault>
+    ensures answer { Answers (all_of line_of (items_view breakpoints.now)) result }
+    ensures count { IfOk result (λ lines. length lines ≡ length breakpoints.now) }
+{
+    let mut lines = Sequence::new(alloc);
     for breakpoint in breakpoints {
-        let name = function_of(breakpoint).ok_or(ArgumentFault::Arguments)?;
-        names.push(Text::copy_of(alloc, name)?)?;
+        lines.push(line_of(breakpoint).ok_or(ArgumentFault::Arguments)?)?;
     }
-    Ok(names)
+    Ok(lines)
+}
+
+fn function_of(alloc: Global, breakpoint: &Value) -> Result<FunctionBreakpoint, ArgumentFault>
+    ensures { Answers (function_of (view breakpoint.now)) result }
+{
+    let name = members::text_at(breakpoint, "name").ok_or(ArgumentFault::Arguments)?;
+    let name = Text::copy_of(alloc, name)?;
+    Ok(FunctionBreakpoint {
+        name,
+        is_plain: is_plain(breakpoint),
+    })
+}
+
+fn functions_of(
+    alloc: Global,
+    breakpoints: &[Value],
+) -> Result<Sequence<FunctionBreakpoint>, ArgumentFault>
+    ensures answer { Answers (all_of function_of (items_view breakpoints.now)) result }
+    ensures count { IfOk result (λ functions. length functions ≡ length breakpoints.now) }
+{
+    let mut functions = Sequence::new(alloc);
+    for breakpoint in breakpoints {
+        functions.push(function_of(alloc, breakpoint)?)?;
+    }
+    Ok(functions)
 }
 
 #[tactic(auto, using(dap_talk::proofs::LineLemmas::few_items))]
@@ -253,17 +301,40 @@ fn breakpoints_at<'a>(request: &'a Value, key: &str) -> Option<&'a [Value]>
     few_breakpoints(argument_at(request, key)??)
 }
 
-/// The required list of functions at which to set breakpoints.
+/// The required list of breakpoints at labels.
 pub fn functions_at(
     alloc: Global,
     request: &Value,
     key: &str,
-) -> Result<Sequence<Text>, ArgumentFault>
+) -> Result<Sequence<FunctionBreakpoint>, ArgumentFault>
     ensures answer { Answers (required_argument key.now functions (view request.now)) result }
-    ensures few { IfOk result (λ names. length names ≤ 256) }
+    ensures few { IfOk result (λ functions. length functions ≤ 256) }
 {
     let breakpoints = breakpoints_at(request, key).ok_or(ArgumentFault::Arguments)?;
     functions_of(alloc, breakpoints)
+}
+
+fn lines_in(alloc: Global, value: &Value) -> Result<Sequence<LineBreakpoint>, ArgumentFault>
+    ensures answer { Answers (lines (view value.now)) result }
+    ensures few { IfOk result (λ lines. length lines ≤ 256) }
+{
+    let breakpoints = few_breakpoints(value).ok_or(ArgumentFault::Arguments)?;
+    lines_of(alloc, breakpoints)
+}
+
+/// The breakpoints on lines, and none if they are absent.
+pub fn lines_or_none(
+    alloc: Global,
+    request: &Value,
+    key: &str,
+) -> Result<Sequence<LineBreakpoint>, ArgumentFault>
+    ensures answer { Answers (optional key.now lines [] (view request.now)) result }
+    ensures few { IfOk result (λ lines. length lines ≤ 256) }
+{
+    match argument_at(request, key).ok_or(ArgumentFault::Arguments)? {
+        None => Ok(Sequence::new(alloc)),
+        Some(value) => lines_in(alloc, value),
+    }
 }
 
 #[tactic(auto, unfolding(crate::specs::Argument::bytes_of, base64::specs::GeneralPurpose::decoded_of))]

@@ -1,16 +1,18 @@
 //! The JSON of bodies.
-ghost use Rattle.std.specs.Prelude.{◌≡◌, ◌∷◌, IfOk, codes, option_to_list};
-ghost use Rattle.serde_json.specs.Data.{string};
+ghost use Rattle.std.specs.Prelude.{◌≡◌, ◌∷◌, ◌++◌, [], IfOk, codes, option_to_list};
+ghost use Rattle.serde_json.specs.Data.{string, boolean};
 ghost use Rattle.serde_json.specs.View.{view};
 ghost use Rattle.dap_answers.specs.Object.{HasMembers};
-ghost use Rattle.dap_answers.specs.Json.{members_from, list_of, one_list, reference};
-ghost use Rattle.dap_editor.specs.Json.{placed_json, last_part, source_json, base64_text};
+ghost use Rattle.dap_answers.specs.Json.{members_from, list_of, one_list, reference, line_json};
+ghost use Rattle.dap_answers.specs.Json.{whole_number};
+ghost use Rattle.dap_editor.specs.Json.{note_text, line_members, placed_json, last_part, source_json};
+ghost use Rattle.dap_editor.specs.Json.{base64_text};
 ghost use Rattle.dap_editor.specs.Json.{data_members, filter_json, filters_json, capabilities_json};
 ghost use Rattle.dap_editor.specs.Json.{target_json, evaluation_json};
 ghost use Rattle.dap_editor.specs.Json.{exception_text, exception_json};
 ghost use Rattle.dap_editor.specs.Json.{memory_json, written_json, editor_body_json};
 
-use crate::message::{EditorBody, GotoTarget, PlacedBreakpoint, UndefinedOpcode};
+use crate::message::{BreakpointNote, EditorBody, GotoTarget, PlacedBreakpoint, UndefinedOpcode};
 use base_text::hexadecimal::{push_byte, push_word};
 use base_text::text::Text;
 use base64::engine::general_purpose::STANDARD;
@@ -47,6 +49,7 @@ fn capabilities(alloc: Global) -> Result<Value, AllocError>
     let filters = filters(alloc)?;
     Object::new(alloc)
         .value("exceptionBreakpointFilters", filters)
+        .flag("supportsBreakpointLocationsRequest", true)
         .flag("supportsConfigurationDoneRequest", true)
         .flag("supportsDisassembleRequest", true)
         .flag("supportsEvaluateForHovers", true)
@@ -64,16 +67,52 @@ fn capabilities(alloc: Global) -> Result<Value, AllocError>
         .finish()
 }
 
+fn note_text(alloc: Global, note: &BreakpointNote) -> Result<Text, AllocError>
+    ensures { IfOk result (λ text. text ≡ note_text note.now) }
+{
+    let mut text = String::new(alloc);
+    match note {
+        BreakpointNote::Moved { from } => write!(text, "moved from line {from}")?,
+        BreakpointNote::NoCode { line } => write!(text, "no code at or below line {line}")?,
+        BreakpointNote::NotLaunched => text.push_str("nothing is launched yet")?,
+        BreakpointNote::OtherProgram(path) => {
+            text.push_str("the program is ")?;
+            text.push_str(path.as_str())?;
+        }
+        BreakpointNote::Conditional => {
+            text.push_str("conditions, hit counts and log messages are not supported")?;
+        }
+        BreakpointNote::NoLabel => text.push_str("the program has no such label")?,
+        BreakpointNote::TooMany => text.push_str("more than 256 breakpoints")?,
+    }
+    Ok(Text::from(text))
+}
+
+// The members of a breakpoint, without its note.
+fn bare_breakpoint(alloc: Global, breakpoint: &PlacedBreakpoint) -> Object
+    ensures { HasMembers result (members_from ((codes "id", whole_number breakpoint.now.id) ∷
+        line_members breakpoint.now.line ++ (codes "verified", boolean breakpoint.now.is_verified) ∷ [])) }
+{
+    let bare = Object::new(alloc)
+        .number("id", u64::from(breakpoint.id))
+        .flag("verified", breakpoint.is_verified);
+    match breakpoint.line {
+        None => bare,
+        Some(line) => bare.number("line", u64::from(line)),
+    }
+}
+
 impl ToJson for PlacedBreakpoint {
     ghost json = { placed_json };
 
     fn to_json(&self, alloc: Global) -> Result<Value, AllocError> {
-        let bare = Object::new(alloc)
-            .number("id", u64::from(self.id))
-            .flag("verified", self.is_verified);
-        match self.line {
+        let bare = bare_breakpoint(alloc, self);
+        match &self.note {
             None => bare.finish(),
-            Some(line) => bare.number("line", u64::from(line)).finish(),
+            Some(note) => {
+                let text = note_text(alloc, note)?;
+                bare.text("message", text.as_str()).finish()
+            }
         }
     }
 }
@@ -83,6 +122,13 @@ fn breakpoints(alloc: Global, list: &[PlacedBreakpoint]) -> Result<Value, AllocE
 {
     let list = array_of(alloc, list)?;
     Object::new(alloc).value("breakpoints", list).finish()
+}
+
+fn locations(alloc: Global, lines: &[u32]) -> Result<Value, AllocError>
+    ensures { IfOk result (λ v. view v ≡ one_list (codes "breakpoints") line_json lines.now) }
+{
+    let lines = array_of(alloc, lines)?;
+    Object::new(alloc).value("breakpoints", lines).finish()
 }
 
 // The part of a path after its last `/`.
@@ -231,6 +277,7 @@ pub fn editor_body_json(alloc: Global, body: &EditorBody) -> Result<Value, Alloc
         EditorBody::Board(body) => body_json(alloc, body),
         EditorBody::Capabilities => capabilities(alloc),
         EditorBody::Breakpoints(list) => breakpoints(alloc, list.as_slice()),
+        EditorBody::Locations(lines) => locations(alloc, lines.as_slice()),
         EditorBody::Exception(undefined) => exception(alloc, *undefined),
         EditorBody::Evaluation(text) => evaluation(alloc, text.as_str()),
         EditorBody::Memory {

@@ -3,6 +3,22 @@ use base_text::sequence::{Bytes, Sequence};
 use base_text::text::Text;
 use dap_answers::answer::{Body, StopReason};
 
+/// Why a breakpoint isn't verified, or isn't on the line that was asked for.
+#[derive(Drop)]
+pub enum BreakpointNote {
+    /// The line that was asked for has no code.
+    Moved { from: u32 },
+    /// Neither the line that was asked for nor one below it has code.
+    NoCode { line: u32 },
+    NotLaunched,
+    /// The program is the file with this path.
+    OtherProgram(Text),
+    /// It has a condition, a hit count or a log message.
+    Conditional,
+    NoLabel,
+    TooMany,
+}
+
 /// A breakpoint as a response shows it. An event that changes it refers to its number.
 #[derive(Drop)]
 pub struct PlacedBreakpoint {
@@ -10,6 +26,8 @@ pub struct PlacedBreakpoint {
     /// `None` for a label that doesn't exist.
     pub line: Option<u32>,
     pub is_verified: bool,
+    /// A message for the user.
+    pub note: Option<BreakpointNote>,
 }
 
 /// An opcode that is undefined on the board, and its address.
@@ -36,6 +54,8 @@ pub enum EditorBody {
     Capabilities,
     /// Of `setBreakpoints` and `setFunctionBreakpoints`.
     Breakpoints(Sequence<PlacedBreakpoint>),
+    /// Of `breakpointLocations`: their lines.
+    Locations(Sequence<u32>),
     /// Of `exceptionInfo`.
     Exception(UndefinedOpcode),
     /// Of `evaluate`.
@@ -114,7 +134,7 @@ pub enum EditorEvent {
         bytes: Bytes,
         place: Option<SourcePlace>,
     },
-    /// A breakpoint is verified now.
+    /// A breakpoint isn't what it was.
     Breakpoint(PlacedBreakpoint),
     /// What the editor shows of the stack and of variables may have changed.
     Invalidated,

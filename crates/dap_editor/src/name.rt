@@ -9,8 +9,10 @@ pub enum EditorName {
     Launch,
     Restart,
     Terminate,
+    SetBreakpoints,
     SetFunctionBreakpoints,
     SetExceptionBreakpoints,
+    BreakpointLocations,
     ExceptionInfo,
     Evaluate,
     ReadMemory,
@@ -23,13 +25,15 @@ pub enum EditorName {
     Goto,
 }
 
-const EVERY_NAME: [EditorName; 16] = [
+const EVERY_NAME: [EditorName; 18] = [
     EditorName::Initialize,
     EditorName::Launch,
     EditorName::Restart,
     EditorName::Terminate,
+    EditorName::SetBreakpoints,
     EditorName::SetFunctionBreakpoints,
     EditorName::SetExceptionBreakpoints,
+    EditorName::BreakpointLocations,
     EditorName::ExceptionInfo,
     EditorName::Evaluate,
     EditorName::ReadMemory,
@@ -54,8 +58,10 @@ impl EditorName {
             EditorName::Launch => "launch",
             EditorName::Restart => "restart",
             EditorName::Terminate => "terminate",
+            EditorName::SetBreakpoints => "setBreakpoints",
             EditorName::SetFunctionBreakpoints => "setFunctionBreakpoints",
             EditorName::SetExceptionBreakpoints => "setExceptionBreakpoints",
+            EditorName::BreakpointLocations => "breakpointLocations",
             EditorName::ExceptionInfo => "exceptionInfo",
             EditorName::Evaluate => "evaluate",
             EditorName::ReadMemory => "readMemory",

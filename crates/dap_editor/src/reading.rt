@@ -6,13 +6,14 @@ ghost use Rattle.dap_editor.specs.Answer.{Answers};
 ghost use Rattle.dap_editor.specs.Table.{command_named, command_asked, launch_asked, evaluate_asked};
 ghost use Rattle.dap_editor.specs.Table.{initialize_asked, read_memory_asked, goto_targets_asked};
 ghost use Rattle.dap_editor.specs.Table.{write_memory_asked, disassemble_asked};
+ghost use Rattle.dap_editor.specs.Table.{set_breakpoints_asked, breakpoint_locations_asked};
 ghost use Rattle.dap_editor.specs.Reading.{has_null_arguments, bare_request, asked_of_board, asked_of_editor};
 ghost use Rattle.dap_editor.specs.Reading.{asked_by, unreadable, editor_request, IsCommandBounded, IsBounded};
 
 use crate::arguments::{
     byte_or_0, bytes_at, context_or_other, count_at, filters_or_none, functions_at, granularity,
-    memory_reference, number_at, offset, shift_or_0, source_path, text_at, text_or_empty,
-    truth_or_false, word_at,
+    lines_or_none, memory_reference, number_at, number_or, offset, shift_or_0, source_path,
+    text_at, text_or_empty, truth_or_false, word_at,
 };
 use crate::name::EditorName;
 use crate::request::{
@@ -49,6 +50,9 @@ fn launch(alloc: Global, request: &Value) -> Result<EditorCommand, ArgumentFault
     let has_aliases = truth_or_false(request, "aliases").ok_or(ArgumentFault::Arguments)?;
     let switches = byte_or_0(request, "switches").ok_or(ArgumentFault::Arguments)?;
     let input = text_or_empty(request, "input").ok_or(ArgumentFault::Arguments)?;
+    let has_watch_commands = truth_or_false(request, "watchCommands").ok_or(
+        ArgumentFault::Arguments,
+    )?;
     let program = Text::copy_of(alloc, program)?;
     let input = Text::copy_of(alloc, input)?;
     Ok(EditorCommand::Launch(Launch {
@@ -59,15 +63,26 @@ fn launch(alloc: Global, request: &Value) -> Result<EditorCommand, ArgumentFault
         has_aliases,
         switches,
         input,
+        has_watch_commands,
     }))
+}
+
+fn set_breakpoints(alloc: Global, request: &Value) -> Result<EditorCommand, ArgumentFault>
+    ensures answer { Answers (set_breakpoints_asked (view request.now)) result }
+    ensures bounded { IfOk result (λ c. IsCommandBounded c) }
+{
+    let path = source_path(request).ok_or(ArgumentFault::Arguments)?;
+    let lines = lines_or_none(alloc, request, "breakpoints")?;
+    let path = Text::copy_of(alloc, path)?;
+    Ok(EditorCommand::SetBreakpoints { path, lines })
 }
 
 fn set_function_breakpoints(alloc: Global, request: &Value) -> Result<EditorCommand, ArgumentFault>
     ensures answer { Answers (command_asked EditorName.SetFunctionBreakpoints (view request.now)) result }
     ensures bounded { IfOk result (λ c. IsCommandBounded c) }
 {
-    let names = functions_at(alloc, request, "breakpoints")?;
-    Ok(EditorCommand::SetFunctionBreakpoints(names))
+    let functions = functions_at(alloc, request, "breakpoints")?;
+    Ok(EditorCommand::SetFunctionBreakpoints(functions))
 }
 
 fn set_exception_breakpoints(request: &Value) -> Option<EditorCommand>
@@ -75,6 +90,17 @@ fn set_exception_breakpoints(request: &Value) -> Option<EditorCommand>
     ensures bounded { IfSome result (λ c. IsCommandBounded c) }
 {
     Some(EditorCommand::SetExceptionBreakpoints(filters_or_none(request)?))
+}
+
+fn breakpoint_locations(alloc: Global, request: &Value) -> Result<EditorCommand, ArgumentFault>
+    ensures answer { Answers (breakpoint_locations_asked (view request.now)) result }
+    ensures bounded { IfOk result (λ c. IsCommandBounded c) }
+{
+    let path = source_path(request).ok_or(ArgumentFault::Arguments)?;
+    let first = number_at(request, "line").ok_or(ArgumentFault::Arguments)?;
+    let last = number_or(request, "endLine", first).ok_or(ArgumentFault::Arguments)?;
+    let path = Text::copy_of(alloc, path)?;
+    Ok(EditorCommand::BreakpointLocations { path, first, last })
 }
 
 fn step_back(request: &Value) -> Option<EditorCommand>
@@ -179,8 +205,10 @@ fn read_command(
         EditorName::Launch => launch(alloc, request),
         EditorName::Restart => Ok(EditorCommand::Restart),
         EditorName::Terminate => Ok(EditorCommand::Terminate),
+        EditorName::SetBreakpoints => set_breakpoints(alloc, request),
         EditorName::SetFunctionBreakpoints => set_function_breakpoints(alloc, request),
         EditorName::SetExceptionBreakpoints => or_refused(set_exception_breakpoints(request)),
+        EditorName::BreakpointLocations => breakpoint_locations(alloc, request),
         EditorName::ExceptionInfo => Ok(EditorCommand::ExceptionInfo),
         EditorName::Evaluate => evaluate(alloc, request),
         EditorName::ReadMemory => or_refused(read_memory(request)),

@@ -16,7 +16,9 @@ pub enum SignedOffset {
 pub enum EvaluateContext {
     /// A line typed at the debugger's prompt.
     Repl,
-    /// A hover, a watch, or anything else that only looks.
+    /// An expression that the editor watches.
+    Watch,
+    /// A hover, or anything else that only looks.
     Other,
 }
 
@@ -43,6 +45,25 @@ pub struct Launch {
     pub switches: u8,
     /// What is typed on the board's keyboard before the program's first step.
     pub input: Text,
+    /// Whether the prompt's words act in the context `watch` too, for editors whose console evaluates so, as
+    /// Kate's.
+    pub has_watch_commands: bool,
+}
+
+/// A breakpoint on a line of a source.
+#[derive(Clone, Copy)]
+pub struct LineBreakpoint {
+    pub line: u32,
+    /// Whether it has no condition, no hit count and no log message.
+    pub is_plain: bool,
+}
+
+/// A breakpoint at a label.
+#[derive(Drop)]
+pub struct FunctionBreakpoint {
+    pub name: Text,
+    /// Whether it has no condition, no hit count and no log message.
+    pub is_plain: bool,
 }
 
 /// The ends of a run at which an editor wants it held (Debug Adapter Protocol, `setExceptionBreakpoints`).
@@ -61,9 +82,20 @@ pub enum EditorCommand {
     Launch(Launch),
     Restart,
     Terminate,
-    /// The labels at which to set breakpoints, at most 256, in the order of the request.
-    SetFunctionBreakpoints(Sequence<Text>),
+    /// The breakpoints of a source, at most 256, in the order of the request.
+    SetBreakpoints {
+        path: Text,
+        lines: Sequence<LineBreakpoint>,
+    },
+    /// The breakpoints at labels, at most 256, in the order of the request.
+    SetFunctionBreakpoints(Sequence<FunctionBreakpoint>),
     SetExceptionBreakpoints(ExceptionFilters),
+    /// Where a source can have breakpoints, from the first line to the last.
+    BreakpointLocations {
+        path: Text,
+        first: u32,
+        last: u32,
+    },
     ExceptionInfo,
     Evaluate {
         expression: Text,

@@ -4,10 +4,33 @@ use base_text::text::Text;
 use dap_answers::answer::{Body, StopReason};
 use dap_editor::json::message_json;
 use dap_editor::message::{
-    EditorBody, EditorEvent, EditorOutcome, EditorResponse, EditorStop, GotoTarget, Message,
-    OutputCategory, PlacedBreakpoint, SourcePlace, UndefinedOpcode,
+    BreakpointNote, EditorBody, EditorEvent, EditorOutcome, EditorResponse, EditorStop, GotoTarget,
+    Message, OutputCategory, PlacedBreakpoint, SourcePlace, UndefinedOpcode,
 };
 use std::alloc::{AllocError, Global};
+
+// A breakpoint's message, from plain values.
+enum Note {
+    Moved(u32),
+    NoCode(u32),
+    NotLaunched,
+    OtherProgram(&'static str),
+    Conditional,
+    NoLabel,
+    TooMany,
+}
+
+fn breakpoint_note(alloc: Global, note: &Note) -> Result<BreakpointNote, AllocError> {
+    match note {
+        Note::Moved(from) => Ok(BreakpointNote::Moved { from: *from }),
+        Note::NoCode(line) => Ok(BreakpointNote::NoCode { line: *line }),
+        Note::NotLaunched => Ok(BreakpointNote::NotLaunched),
+        Note::OtherProgram(path) => Ok(BreakpointNote::OtherProgram(Text::copy_of(alloc, path)?)),
+        Note::Conditional => Ok(BreakpointNote::Conditional),
+        Note::NoLabel => Ok(BreakpointNote::NoLabel),
+        Note::TooMany => Ok(BreakpointNote::TooMany),
+    }
+}
 
 // A body, from plain values.
 enum Shape {
@@ -15,6 +38,9 @@ enum Shape {
     Capabilities,
     // Number, line and whether it is verified.
     Breakpoints(&'static [(u32, Option<u32>, bool)]),
+    // A breakpoint on a line, and its message.
+    Noted(u32, Note),
+    Locations(&'static [u32]),
     // Opcode and address.
     Exception(u8, u16),
     Evaluation(&'static str),
@@ -31,6 +57,7 @@ fn placed(row: (u32, Option<u32>, bool)) -> PlacedBreakpoint {
         id: row.0,
         line: row.1,
         is_verified: row.2,
+        note: None,
     }
 }
 
@@ -42,6 +69,18 @@ fn breakpoints(
     for row in rows {
         list.push(placed(*row))?;
     }
+    Ok(list)
+}
+
+fn noted(alloc: Global, line: u32, row: &Note) -> Result<Sequence<PlacedBreakpoint>, AllocError> {
+    let note = breakpoint_note(alloc, row)?;
+    let mut list = Sequence::new(alloc);
+    list.push(PlacedBreakpoint {
+        id: 1,
+        line: Some(line),
+        is_verified: false,
+        note: Some(note),
+    })?;
     Ok(list)
 }
 
@@ -67,6 +106,8 @@ fn body(alloc: Global, shape: &Shape) -> Result<EditorBody, AllocError> {
         Shape::Threads => Ok(EditorBody::Board(Body::Threads)),
         Shape::Capabilities => Ok(EditorBody::Capabilities),
         Shape::Breakpoints(rows) => Ok(EditorBody::Breakpoints(breakpoints(alloc, rows)?)),
+        Shape::Noted(line, note) => Ok(EditorBody::Breakpoints(noted(alloc, *line, note)?)),
+        Shape::Locations(lines) => Ok(EditorBody::Locations(Sequence::from(lines.to_vec(alloc)?))),
         Shape::Exception(opcode, pc) => Ok(EditorBody::Exception(undefined(*opcode, *pc))),
         Shape::Evaluation(text) => Ok(EditorBody::Evaluation(Text::copy_of(alloc, text)?)),
         Shape::Memory(address, bytes, unreadable) => Ok(EditorBody::Memory {
@@ -100,13 +141,14 @@ fn is_written(alloc: Global, message: &Message, json: &str) -> Result<bool, Allo
     Ok(text?.as_str() == json)
 }
 
-const BODIES: [(Shape, &str); 15] = [
+const BODIES: [(Shape, &str); 24] = [
     (Shape::Threads, r#"{"threads":[{"id":1,"name":"8080"}]}"#),
     (
         Shape::Capabilities,
         concat!(
             r#"{"exceptionBreakpointFilters":[{"default":true,"filter":"undefined","#,
             r#""label":"Undefined opcodes"},{"default":false,"filter":"halt","label":"HLT"}],"#,
+            r#""supportsBreakpointLocationsRequest":true,"#,
             r#""supportsConfigurationDoneRequest":true,"supportsDisassembleRequest":true,"#,
             r#""supportsEvaluateForHovers":true,"supportsExceptionInfoRequest":true,"#,
             r#""supportsFunctionBreakpoints":true,"supportsGotoTargetsRequest":true,"#,
@@ -120,6 +162,48 @@ const BODIES: [(Shape, &str); 15] = [
     (
         Shape::Breakpoints(&[(257, Some(3), true), (2, None, false)]),
         r#"{"breakpoints":[{"id":257,"line":3,"verified":true},{"id":2,"verified":false}]}"#,
+    ),
+    (
+        Shape::Noted(13, Note::Moved(12)),
+        r#"{"breakpoints":[{"id":1,"line":13,"message":"moved from line 12","verified":false}]}"#,
+    ),
+    (
+        Shape::Noted(40, Note::NoCode(40)),
+        concat!(
+            r#"{"breakpoints":[{"id":1,"line":40,"message":"no code at or below line 40","#,
+            r#""verified":false}]}"#,
+        ),
+    ),
+    (
+        Shape::Noted(0, Note::NotLaunched),
+        r#"{"breakpoints":[{"id":1,"line":0,"message":"nothing is launched yet","verified":false}]}"#,
+    ),
+    (
+        Shape::Noted(1, Note::OtherProgram("/a b.asm")),
+        r#"{"breakpoints":[{"id":1,"line":1,"message":"the program is /a b.asm","verified":false}]}"#,
+    ),
+    (
+        Shape::Noted(1, Note::Conditional),
+        concat!(
+            r#"{"breakpoints":[{"id":1,"line":1,"message":"conditions, hit counts and log messages "#,
+            r#"are not supported","verified":false}]}"#,
+        ),
+    ),
+    (
+        Shape::Noted(1, Note::NoLabel),
+        concat!(
+            r#"{"breakpoints":[{"id":1,"line":1,"message":"the program has no such label","#,
+            r#""verified":false}]}"#,
+        ),
+    ),
+    (
+        Shape::Noted(1, Note::TooMany),
+        r#"{"breakpoints":[{"id":1,"line":1,"message":"more than 256 breakpoints","verified":false}]}"#,
+    ),
+    (Shape::Locations(&[]), r#"{"breakpoints":[]}"#),
+    (
+        Shape::Locations(&[5, 4294967295]),
+        r#"{"breakpoints":[{"line":5},{"line":4294967295}]}"#,
     ),
     (
         Shape::Exception(0xed, 0x01af),

@@ -2,8 +2,8 @@
 use base_text::text::Text;
 use dap_editor::reading::read_editor_request;
 use dap_editor::request::{
-    EditorCommand, EditorRequest, EvaluateContext, ExceptionFilters, Launch, RequestContent,
-    RequestFault, SignedOffset, SupportedEvents,
+    EditorCommand, EditorRequest, EvaluateContext, ExceptionFilters, FunctionBreakpoint, Launch,
+    LineBreakpoint, RequestContent, RequestFault, SignedOffset, SupportedEvents,
 };
 use lab_shown::step::Granularity;
 use serde_json::Value;
@@ -67,16 +67,59 @@ fn put_launch(told: &mut String, launch: &Launch) -> Result<(), AllocError> {
         told,
         "launch {program} {entry} {end} {debugged} {aliases} {switches}"
     )?;
-    put_input(told, launch.input.as_str())
-}
-
-fn put_names(told: &mut String, names: &[Text]) -> Result<(), AllocError> {
-    told.push_str("functions")?;
-    for name in names {
-        told.push_str(" ")?;
-        told.push_str(name.as_str())?;
+    put_input(told, launch.input.as_str())?;
+    if launch.has_watch_commands {
+        told.push_str(" watch")?;
     }
     Ok(())
+}
+
+// What follows a breakpoint.
+fn plain_word(is_plain: bool) -> &'static str {
+    if is_plain { "" } else { "?" }
+}
+
+fn put_lines(
+    told: &mut String,
+    path: &str,
+    breakpoints: &[LineBreakpoint],
+) -> Result<(), AllocError> {
+    write!(told, "lines {path}")?;
+    for breakpoint in breakpoints {
+        let line = breakpoint.line;
+        let word = plain_word(breakpoint.is_plain);
+        write!(told, " {line}{word}")?;
+    }
+    Ok(())
+}
+
+fn put_functions(told: &mut String, breakpoints: &[FunctionBreakpoint]) -> Result<(), AllocError> {
+    told.push_str("functions")?;
+    for breakpoint in breakpoints {
+        let name = breakpoint.name.as_str();
+        let word = plain_word(breakpoint.is_plain);
+        write!(told, " {name}{word}")?;
+    }
+    Ok(())
+}
+
+// Adds a command that has to do with breakpoints.
+fn put_breakpoints(told: &mut String, command: &EditorCommand) -> Result<(), AllocError> {
+    match command {
+        EditorCommand::SetBreakpoints { path, lines } => {
+            put_lines(told, path.as_str(), lines.as_slice())
+        }
+        EditorCommand::SetFunctionBreakpoints(functions) => {
+            put_functions(told, functions.as_slice())
+        }
+        EditorCommand::SetExceptionBreakpoints(filters) => put_filters(told, *filters),
+        EditorCommand::BreakpointLocations { path, first, last } => {
+            let path = path.as_str();
+            write!(told, "locations {path} {first} {last}")?;
+            Ok(())
+        }
+        _ => Ok(()),
+    }
 }
 
 fn put_place(
@@ -99,6 +142,7 @@ fn put_written(told: &mut String, bytes: &[u8]) -> Result<(), AllocError> {
 fn context_word(context: EvaluateContext) -> &'static str {
     match context {
         EvaluateContext::Repl => "repl",
+        EvaluateContext::Watch => "watch",
         EvaluateContext::Other => "other",
     }
 }
@@ -168,8 +212,10 @@ fn put_command(told: &mut String, command: &EditorCommand) -> Result<(), AllocEr
         EditorCommand::Launch(launch) => put_launch(told, launch),
         EditorCommand::Restart => told.push_str("restart"),
         EditorCommand::Terminate => told.push_str("terminate"),
-        EditorCommand::SetFunctionBreakpoints(names) => put_names(told, names.as_slice()),
-        EditorCommand::SetExceptionBreakpoints(filters) => put_filters(told, *filters),
+        EditorCommand::SetBreakpoints { .. }
+        | EditorCommand::SetFunctionBreakpoints(_)
+        | EditorCommand::SetExceptionBreakpoints(_)
+        | EditorCommand::BreakpointLocations { .. } => put_breakpoints(told, command),
         EditorCommand::ExceptionInfo => told.push_str("exception"),
         EditorCommand::Evaluate {
             expression,
@@ -247,6 +293,9 @@ launch {"program":"a","input":"h\u0069 \"8080\""} -> launch a false false true f
 launch {"program":"a","input":""} -> launch a false false true false 0
 launch {"program":"a","input":7} -> Arguments
 launch {"program":"a","input":null} -> Arguments
+launch {"program":"a","watchCommands":true} -> launch a false false true false 0 watch
+launch {"program":"a","watchCommands":false} -> launch a false false true false 0
+launch {"program":"a","watchCommands":"true"} -> Arguments
 restart 3 -> restart
 terminate null -> terminate
 setExceptionBreakpoints {"filters":[]} -> exceptions false false
@@ -281,15 +330,45 @@ goto null -> Arguments
 exceptionInfo {"threadId":1} -> exception
 exceptionInfo null -> exception
 loadedSources {} -> sources
+setBreakpoints {"source":{"path":"a.asm"},"breakpoints":[{"line":3},{"line":0,"column":2}]} -> lines a.asm 3 0
+setBreakpoints {"source":{"path":""},"lines":[7]} -> lines 
+setBreakpoints {"source":{"path":"a"},"breakpoints":[]} -> lines a
+setBreakpoints {"source":{"path":"a"},"#,
+    r#""breakpoints":[{"line":4294967295,"condition":""}]} -> lines a 4294967295
+setBreakpoints {"source":{"path":"a"},"breakpoints":[{"line":1,"condition":"A"},{"line":1}]} -> lines a 1? 1
+setBreakpoints {"source":{"path":"a"},"breakpoints":[{"line":1,"hitCondition":null}]} -> lines a 1
+setBreakpoints {"source":{"path":"a"},"breakpoints":[{"line":1,"hitCondition":"2"}]} -> lines a 1?
+setBreakpoints {"source":{"path":"a"},"breakpoints":[{"line":1,"logMessage":"x"}]} -> lines a 1?
+setBreakpoints {"source":{"path":"a"},"breakpoints":[{"line":1,"logMessage":false}]} -> lines a 1?
+setBreakpoints {"source":{"path":"a"},"breakpoints":[{"line":4294967296}]} -> Arguments
+setBreakpoints {"source":{"path":"a"},"breakpoints":[{"line":-1}]} -> Arguments
+setBreakpoints {"source":{"path":"a"},"breakpoints":[{}]} -> Arguments
+setBreakpoints {"source":{"path":"a"},"breakpoints":[7]} -> Arguments
+setBreakpoints {"source":{"path":"a"},"breakpoints":null} -> Arguments
+setBreakpoints {"source":{"name":"a"},"breakpoints":[]} -> Arguments
+setBreakpoints {"breakpoints":[]} -> Arguments
+setBreakpoints null -> Arguments
 setFunctionBreakpoints {"breakpoints":[]} -> functions
 setFunctionBreakpoints {"breakpoints":[{"name":"LOOP"},{"name":"END","logMessage":""}]} -> functions LOOP END
 setFunctionBreakpoints {} -> Arguments
 setFunctionBreakpoints {"breakpoints":[{"name":1}]} -> Arguments
-setFunctionBreakpoints {"breakpoints":[{"name":"A","condition":""}]} -> Arguments
-setFunctionBreakpoints {"breakpoints":[{"name":"A","hitCondition":null}]} -> Arguments
+setFunctionBreakpoints {"breakpoints":[{"name":"A","condition":""},{"name":""}]} -> functions A 
+setFunctionBreakpoints {"breakpoints":[{"name":"A","condition":"B"},{"name":"C"}]} -> functions A? C
+setFunctionBreakpoints {"breakpoints":[{"name":"A","hitCondition":null}]} -> functions A
+setFunctionBreakpoints {"breakpoints":[{"name":"A","hitCondition":3}]} -> functions A?
+breakpointLocations {"source":{"path":"a.asm"},"line":5} -> locations a.asm 5 5
+breakpointLocations {"source":{"path":"a.asm"},"line":5,"endLine":9,"column":1} -> locations a.asm 5 9
+breakpointLocations {"source":{"path":"a.asm"},"line":5,"endLine":0} -> locations a.asm 5 0
+breakpointLocations {"source":{"path":"a.asm"},"line":5,"endLine":null} -> Arguments
+breakpointLocations {"source":{"path":"a.asm"},"endLine":5} -> Arguments
+breakpointLocations {"source":{"path":"a.asm"},"line":4294967296} -> Arguments
+breakpointLocations {"source":{},"line":5} -> Arguments
+breakpointLocations null -> Arguments
 evaluate {"expression":"HL","frameId":"x"} -> evaluate other HL
 evaluate {"expression":"HL","context":"repl"} -> evaluate repl HL
 evaluate {"expression":"HL","context":"Repl"} -> evaluate other HL
+evaluate {"expression":"HL","context":"watch"} -> evaluate watch HL
+evaluate {"expression":"HL","context":"hover"} -> evaluate other HL
 evaluate {"expression":"HL","context":1} -> Arguments
 evaluate {} -> Arguments
 readMemory {"memoryReference":"0xFf00","count":16} -> read 65280 +0 16

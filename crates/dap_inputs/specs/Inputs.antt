@@ -1,6 +1,6 @@
 -- The inputs of a run among the requests: what is typed, switched, pressed and changed by hand.
-use Rattle.std.specs.Prelude.{ℕ, ◌-◌, [], ◌∷◌, take, Bool, true, false, Option, Some, None}
-use Rattle.std.specs.Prelude.{Result, Ok, Err}
+use Rattle.std.specs.Prelude.{ℕ, ◌-◌, [], ◌∷◌, take, Bool, true, false, Option, Some, None, is_some}
+use Rattle.std.specs.Prelude.{Result, Ok, Err, codes}
 use Rattle.base_text.specs.Bytes.{Bytes, Text}
 use Rattle.base_text.specs.Latin.{latin_bytes}
 use Rattle.i80_exec.specs.declared.registers.Registers.{Registers}
@@ -15,7 +15,7 @@ use Rattle.dap_talk.specs.declared.command.DapCommand.TheVariants as command
 use Rattle.dap_editor.specs.declared.message.EditorOutcome.{EditorOutcome}
 use Rattle.dap_editor.specs.declared.message.EditorOutcome.TheVariants.{Success, Refused}
 use Rattle.dap_editor.specs.declared.request.EditorCommand.TheVariants as editor
-use Rattle.dap_editor.specs.declared.request.EvaluateContext.TheVariants.{Repl}
+use Rattle.dap_editor.specs.declared.request.EvaluateContext.TheVariants.{Repl, Watch}
 use Rattle.dap_editor.specs.declared.request.RequestContent.{RequestContent}
 use Rattle.dap_editor.specs.declared.request.RequestContent.TheVariants as asked
 use Rattle.dap_history.specs.declared.input.Input.{Input}
@@ -24,7 +24,7 @@ use Rattle.dap_history.specs.Runs.{after_input}
 use Rattle.dap_program.specs.Memory.{address_at}
 use Rattle.dap_inputs.specs.declared.prompt.PromptCommand.{PromptCommand}
 use Rattle.dap_inputs.specs.declared.prompt.PromptCommand.TheVariants as prompt
-use Rattle.dap_inputs.specs.Prompt.{prompt_command}
+use Rattle.dap_inputs.specs.Prompt.{behind, prompt_command}
 
 -- registers, one of which has another value; a byte of memory is none of them
 abbrev pub registers_with : Place → ℕ → Registers → Registers
@@ -75,6 +75,19 @@ input_of (asked.Editor (editor.WriteMemory address offset bytes)) r =
     bytes_input (address_at address offset) bytes
 input_of (asked.Editor (editor.Goto target)) r = Some (input.Registers (record r { pc = target }))
 input_of other r = None
+
+-- If a watch may be a line of the prompt, it is evaluated as one.
+abbrev pub as_meant : Bool → RequestContent → RequestContent
+as_meant true (asked.Editor (editor.Evaluate line Watch)) = asked.Editor (editor.Evaluate line Repl)
+as_meant has_commands a = a
+
+-- a line is typed by a request, or a program is loaded, which has asked for none
+abbrev pub ends_question : RequestContent → Bool
+ends_question (asked.Board (command.BoardType text)) = true
+ends_question (asked.Editor (editor.Evaluate line Repl)) = is_some (behind (codes "type ") line)
+ends_question (asked.Editor (editor.Launch l)) = true
+ends_question (asked.Editor editor.Restart) = true
+ends_question other = false
 
 abbrev pub after_input_if : Option Input → Board → Board
 after_input_if None b = b

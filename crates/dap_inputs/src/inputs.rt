@@ -8,7 +8,7 @@ ghost use Rattle.dap_inputs.specs.Inputs as inputs;
 ghost use Rattle.dap_inputs.specs.Inputs.{registers_with, place_input, named_input, command_input};
 ghost use Rattle.dap_inputs.specs.Inputs.{prompt_input, bytes_input};
 
-use crate::prompt::{PromptCommand, prompt_command};
+use crate::prompt::{PromptCommand, is_typing, prompt_command};
 use base_text::latin::to_bytes;
 use base_text::sequence::Bytes;
 use dap_editor::request::{EditorCommand, EvaluateContext, RequestContent, SignedOffset};
@@ -138,6 +138,41 @@ fn bytes_input(
         address: start,
         bytes,
     }))
+}
+
+/// The request that is meant, where a watch may be a line of the prompt.
+pub fn as_meant(asked: RequestContent, has_watch_commands: bool) -> RequestContent
+    ensures { result ≡ inputs.as_meant has_watch_commands asked }
+{
+    match asked {
+        RequestContent::Editor(
+            EditorCommand::Evaluate {
+                expression,
+                context: EvaluateContext::Watch,
+            },
+        ) if has_watch_commands => RequestContent::Editor(EditorCommand::Evaluate {
+            expression,
+            context: EvaluateContext::Repl,
+        }),
+        other => other,
+    }
+}
+
+/// Whether a request types a line, or loads a program, which has asked for none.
+pub fn ends_question(asked: &RequestContent) -> bool
+    ensures { result ≡ inputs.ends_question asked.now }
+{
+    match asked {
+        RequestContent::Board(command) => matches!(command, DapCommand::BoardType { .. }),
+        RequestContent::Editor(
+            EditorCommand::Evaluate {
+                expression,
+                context: EvaluateContext::Repl,
+            },
+        ) => is_typing(expression.as_str()),
+        RequestContent::Editor(EditorCommand::Launch(_) | EditorCommand::Restart) => true,
+        _ => false,
+    }
 }
 
 /// What a request changes by hand if it is carried out, on a board with these registers.

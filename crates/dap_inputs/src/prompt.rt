@@ -1,5 +1,5 @@
 //! Lines of the debugger's prompt.
-ghost use Rattle.std.specs.Prelude.{◌≡◌, ◌++◌, IfOk, option_map, codes};
+ghost use Rattle.std.specs.Prelude.{◌≡◌, ◌++◌, IfOk, option_map, is_some, codes};
 ghost use Rattle.dap_inputs.specs.Prompt.{behind, byte_spelled, byte_command, FitsBoard};
 ghost use Rattle.dap_inputs.specs.Prompt.{prompt_command};
 
@@ -27,6 +27,13 @@ fn behind<'a>(beginning: &str, text: &'a str) -> Option<&'a str>
         Some(rest) => Some(rest),
         None => None,
     }
+}
+
+/// Whether a line of the prompt types.
+pub(crate) fn is_typing(line: &str) -> bool
+    ensures { result ≡ is_some (behind (codes "type ") line.now) }
+{
+    behind("type ", line).is_some()
 }
 
 fn byte_spelled(text: &str) -> Option<u8>

@@ -5,11 +5,11 @@ ghost use Rattle.lab_image.specs.declared.lists.BreakpointList.{BreakpointList};
 ghost use Rattle.lab_image.specs.Breakpoints.{has_breakpoint, is_met};
 ghost use Rattle.lab_core.specs.Board.{Board};
 ghost use Rattle.dap_inspect.specs.declared.label.SourceLine.{SourceLine};
-ghost use Rattle.dap_inspect.specs.Labels.{symbol_value, line_of_label};
+ghost use Rattle.dap_inspect.specs.Labels.{label_value, line_of_label};
 
 /// A breakpoint on the line of a label is hit at the label's value.
 pub fn breakpoint_is_met_at_label()
     ensures { (b : Board) (name : Text) (at : SourceLine) (address : ℕ) (lists : List BreakpointList)
-        → symbol_value b name ≡ Some address → line_of_label b name ≡ Some at
+        → label_value b name ≡ Some address → line_of_label b name ≡ Some at
         → has_breakpoint lists at.source at.line ≡ true → is_met lists b.loads address ≡ true }
 {}

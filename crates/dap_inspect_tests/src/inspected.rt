@@ -20,6 +20,7 @@ LOOP:  DCR A
        HLT
 TABLE: DB 34H,56H
 ROOM:  DS 1
+HERE   EQU LOOP
        END BEGIN
 ";
 
@@ -119,13 +120,14 @@ const BYTES: [(u16, u32, &[u8]); 4] = [
     (0xFFFE, 1, &[0]),
 ];
 
-// A name, and the line of the first source at which its statement begins.
-const LABELS: [(&str, Option<u32>); 6] = [
+// A name, and the line of the first source at which the statement of this label begins.
+const LABELS: [(&str, Option<u32>); 7] = [
     ("BEGIN", Some(3)),
     ("loop", Some(5)),
     ("Table", Some(8)),
     ("ROOM", None),
     ("COUNT", None),
+    ("HERE", None),
     ("NOWHERE", None),
 ];
 

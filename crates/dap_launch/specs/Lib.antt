@@ -1,3 +1,4 @@
 pub mod Files
 pub mod Lives
 pub mod Programs
+pub mod Points

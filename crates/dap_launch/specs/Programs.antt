@@ -4,26 +4,25 @@ use Rattle.base_text.specs.Bytes.{Text}
 use Rattle.base_text.specs.Latin.{latin_bytes}
 use Rattle.lab_core.specs.declared.event.Event.TheVariants.{Typed}
 use Rattle.lab_core.specs.Board.{Board}
-use Rattle.lab_image.specs.Sources.{line_count}
 use Rattle.dap_editor.specs.declared.message.EditorStop.TheVariants.{Entry}
 use Rattle.dap_editor.specs.declared.message.PlacedBreakpoint.{PlacedBreakpoint}
 use Rattle.dap_editor.specs.declared.request.Launch.{Launch as LaunchOf}
+use Rattle.dap_editor.specs.declared.request.LineBreakpoint.{LineBreakpoint}
+use Rattle.dap_editor.specs.declared.request.FunctionBreakpoint.{FunctionBreakpoint}
 use Rattle.dap_points.specs.Points.{WantedBreakpointsState, number_of, lines_at}
-use Rattle.dap_points.specs.Placed.{line_points}
 use Rattle.dap_program.specs.declared.messages.FollowUp.{FollowUp}
 use Rattle.dap_program.specs.declared.messages.FollowUp.TheVariants.{Nothing, Continued, Stopped}
 use Rattle.dap_program.specs.declared.opening.LoadReason.{LoadReason}
 use Rattle.dap_program.specs.declared.opening.LoadReason.TheVariants.{Launch, Restart}
 use Rattle.dap_program.specs.Boards.{after, begin_run}
-use Rattle.dap_program.specs.Breakpoints.{board_armed_at, labels_behind}
+use Rattle.dap_program.specs.Breakpoints.{lines_on, board_armed_at, labels_behind}
 use Rattle.dap_launch.specs.declared.program.Phase.TheVariants as phase
 use Rattle.dap_launch.specs.declared.program.Program.{Program}
 use Rattle.dap_launch.specs.Lives.{in_phase}
 
 -- a program that was loaded, before it begins
-abbrev pub program_of : LaunchOf → ℕ → Text → Program
-program_of l start text =
-    record { launch = l; start = start; line_count = line_count text; phase = phase.Loaded }
+abbrev pub program_of : LaunchOf → ℕ → Program
+program_of l start = record { launch = l; start = start; phase = phase.Loaded }
 
 -- ---- how it begins
 
@@ -55,19 +54,27 @@ going_follow Restart = Continued
 abbrev pub begun_follow : LoadReason → LaunchOf → FollowUp
 begun_follow cause l = if pauses l then Stopped Entry else going_follow cause
 
--- ---- its breakpoints
+-- ---- its breakpoints, on the board that it is loaded on
 
--- on its lines
-abbrev pub program_lines : Program → WantedBreakpointsState → List PlacedBreakpoint
-program_lines p kept =
-    let path = p.launch.program in
-    line_points (number_of path kept.lists) p.line_count 0 (lines_at path kept.lists)
+abbrev pub program_lines : Program → WantedBreakpointsState → Board → List PlacedBreakpoint
+program_lines p kept b =
+    let path = p.launch.program in lines_on b (number_of path kept.lists) (lines_at path kept.lists)
 
--- at labels, on the board that it is loaded on
+-- at these labels
+abbrev pub labels_for : Program → WantedBreakpointsState → List FunctionBreakpoint → Board
+    → List PlacedBreakpoint
+labels_for p kept functions b = labels_behind b (program_lines p kept b) functions
+
 abbrev pub program_labels : Program → WantedBreakpointsState → Board → List PlacedBreakpoint
-program_labels p kept b = labels_behind (lines_at p.launch.program kept.lists) (take 256 kept.functions) b
+program_labels p kept b = labels_for p kept (take 256 kept.functions) b
 
--- its board, which stops at them
+-- its board, which stops on these lines, of the source with this number, and at these labels
+abbrev pub armed_with : Program → ℕ → List LineBreakpoint → List FunctionBreakpoint → Board → Board
+armed_with p number lines functions b =
+    let on_lines = lines_on b number lines in
+    board_armed_at p.launch.program on_lines (labels_behind b on_lines functions) b
+
 abbrev pub program_board : Program → WantedBreakpointsState → Board → Board
 program_board p kept b =
-    let path = p.launch.program in board_armed_at path (lines_at path kept.lists) (take 256 kept.functions) b
+    let path = p.launch.program in
+    armed_with p (number_of path kept.lists) (lines_at path kept.lists) (take 256 kept.functions) b

@@ -1,18 +1,17 @@
 //! A launched program, and its breakpoints.
-ghost use Rattle.std.specs.Prelude.{◌≡◌, OnOk, OnErr, IfOk};
+ghost use Rattle.std.specs.Prelude.{◌≡◌, ◌≤◌, length, OnOk, OnErr, IfOk};
 ghost use Rattle.lab_core.specs.Board.{Board};
 ghost use Rattle.lab_core.specs.Labs.{RepresentsBoard};
 ghost use Rattle.dap_program.specs.Boards.{begin_run};
 ghost use Rattle.dap_launch.specs.Programs.{pauses, with_input, begun_board, begun_if, board_if};
-ghost use Rattle.dap_launch.specs.Programs.{program_lines, program_labels, program_board};
+ghost use Rattle.dap_launch.specs.Programs.{program_lines, labels_for, armed_with, program_board};
 
 use base_text::latin::to_bytes;
 use base_text::sequence::Sequence;
 use dap_editor::message::PlacedBreakpoint;
-use dap_editor::request::Launch;
-use dap_points::placed::line_points;
+use dap_editor::request::{FunctionBreakpoint, Launch, LineBreakpoint};
 use dap_points::points::WantedBreakpoints;
-use dap_program::breakpoints::{arm, labels_behind};
+use dap_program::breakpoints::{arm, labels_behind, lines_on};
 use dap_program::change::{begin, begin_stopped, change};
 use lab_core::answer::End;
 use lab_core::event::Event;
@@ -37,8 +36,6 @@ pub struct Program {
     pub launch: Launch,
     /// The address that END names.
     pub start: u16,
-    /// The number of lines of its text.
-    pub line_count: usize,
     pub phase: Phase,
 }
 
@@ -119,56 +116,80 @@ pub fn copy_launch(launch: &Launch) -> Result<Launch, AllocError>
         has_aliases: launch.has_aliases,
         switches: launch.switches,
         input,
+        has_watch_commands: launch.has_watch_commands,
     })
 }
 
-/// The breakpoints on a program's lines.
+/// The breakpoints on a program's lines, on its board.
 pub fn program_lines(
-    alloc: Global,
-    program: &Program,
-    points: &WantedBreakpoints,
-) -> Result<Sequence<PlacedBreakpoint>, AllocError>
-    ensures { IfOk result (λ lines. lines ≡ program_lines program.now points.now) }
-{
-    let path = program.launch.program.as_str();
-    line_points(
-        alloc,
-        points.number_of(path),
-        program.line_count,
-        points.lines_at(path),
-    )
-}
-
-/// The breakpoints at labels, on a program's board.
-pub fn program_labels(
     alloc: Global,
     program: &Program,
     points: &WantedBreakpoints,
     lab: &Lab,
 ) -> Result<Sequence<PlacedBreakpoint>, AllocError>
     ensures { (b : Board) → RepresentsBoard lab.now b
-        → IfOk result (λ labels. labels ≡ program_labels program.now points.now b) }
+        → IfOk result (λ lines. lines ≡ program_lines program.now points.now b) }
 {
     let path = program.launch.program.as_str();
-    labels_behind(alloc, lab, points.lines_at(path), points.functions())
+    lines_on(alloc, lab, points.number_of(path), points.lines_at(path))
 }
 
-/// Makes a program's board stop at the breakpoints that are kept for the program.
+/// The breakpoints at these labels, on a program's board.
+pub fn labels_for(
+    alloc: Global,
+    program: &Program,
+    points: &WantedBreakpoints,
+    functions: &[FunctionBreakpoint],
+    lab: &Lab,
+) -> Result<Sequence<PlacedBreakpoint>, AllocError>
+    requires { length functions.now ≤ 256 }
+    ensures { (b : Board) → RepresentsBoard lab.now b
+        → IfOk result (λ labels. labels ≡ labels_for program.now points.now functions.now b) }
+{
+    let lines = program_lines(alloc, program, points, lab)?;
+    labels_behind(alloc, lab, lines.as_slice(), functions)
+}
+
+/// Makes a program's board stop on these lines of the program, which is the source with this number, and at
+/// these labels. If memory runs out the board stays as it was.
+pub fn arm_with(
+    alloc: Global,
+    lab: &mut Lab,
+    program: &Program,
+    number: u32,
+    lines: &[LineBreakpoint],
+    functions: &[FunctionBreakpoint],
+) -> Result<(), AllocError>
+    requires bounds { (number ≤ 1025) × (length lines.now ≤ 256) × (length functions.now ≤ 256) }
+    ensures ok { (b : Board) → RepresentsBoard lab.old b → OnOk result
+        (RepresentsBoard lab.new (armed_with program.now number lines.now functions.now b)) }
+    ensures err { OnErr result (lab.new ≡ lab.old) }
+{
+    let lines = lines_on(alloc, lab, number, lines)?;
+    let labels = labels_behind(alloc, lab, lines.as_slice(), functions)?;
+    let path = &program.launch.program;
+    arm(alloc, lab, path, lines.as_slice(), labels.as_slice())
+}
+
+/// Makes a program's board stop at the breakpoints that are kept for the program. If memory runs out the
+/// board stays as it was.
 pub fn arm_program(
     alloc: Global,
     lab: &mut Lab,
     program: &Program,
     points: &WantedBreakpoints,
 ) -> Result<(), AllocError>
-    ensures { (b : Board) → RepresentsBoard lab.old b
+    ensures ok { (b : Board) → RepresentsBoard lab.old b
         → OnOk result (RepresentsBoard lab.new (program_board program.now points.now b)) }
+    ensures err { OnErr result (lab.new ≡ lab.old) }
 {
-    let path = &program.launch.program;
-    arm(
+    let path = program.launch.program.as_str();
+    arm_with(
         alloc,
         lab,
-        path,
-        points.lines_at(path.as_str()),
+        program,
+        points.number_of(path),
+        points.lines_at(path),
         points.functions(),
     )
 }

@@ -19,8 +19,9 @@ use Rattle.dap_editor.specs.declared.request.RequestContent.TheVariants as asked
 use Rattle.dap_history.specs.declared.goal.Goal.{Goal}
 use Rattle.dap_history.specs.Runs.{board_at}
 use Rattle.dap_launch.specs.declared.file.FileText.{FileText}
-use Rattle.dap_inputs.specs.Inputs.{input_of, is_success}
-use Rattle.dap_session.specs.States.{SessionState, with_waits}
+use Rattle.dap_editor.specs.declared.request.EditorRequest.{EditorRequest}
+use Rattle.dap_inputs.specs.Inputs.{input_of, is_success, as_meant}
+use Rattle.dap_session.specs.States.{SessionState, with_waits, has_watch_commands}
 use Rattle.dap_session.specs.Turns.{Turn}
 use Rattle.dap_session.specs.Requests as session
 use Rattle.dap_session.specs.Rewinds.{can_go_back, rewound}
@@ -34,9 +35,11 @@ use Rattle.dap_record.specs.Backward.{back_of}
 use Rattle.dap_record.specs.MidSearch.{mid_search}
 use Rattle.dap_record.specs.Turns.{RecordedTurn, recorded_turn, back_in, turn_of, turn}
 use Rattle.dap_record.specs.Slices.{RecordedTold, slice_told, Input, request, slice, step, play_all}
+use Rattle.dap_record.specs.Slices.{meant_by, request_told}
 use Rattle.dap_record.proofs.RecordedLemmas.{look_leaves}
 use Rattle.dap_record.proofs.TravelLemmas.{can_rewound}
 use Rattle.dap_laws.specs.Recorded.{after_all, IsRecordingOfIf, RefusalLeaves, tried_again}
+use Rattle.dap_laws.specs.Recorded.{WatchesOnlyLook}
 use Rattle.dap_laws.proofs.CaseLemmas.{turn_for, of_turn, of_back, of_slice}
 use Rattle.dap_laws.proofs.RecordingLemmas.{recording_is}
 
@@ -111,7 +114,7 @@ held_slice finds v held =
 
 pub held_step : (input : Input) (v : RecordedState) → IsHeldIf v.search v.session
     → IsHeldIf (step input v).state.search (step input v).state.session
-held_step (request r found) v held = held_turn r.asked found v held
+held_step (request r found) v held = held_turn (meant_by r v) found v held
 held_step (slice finds) v held = held_slice finds v held
 
 held_played : (inputs : List Input) (v : RecordedState) → IsHeldIf v.search v.session
@@ -177,6 +180,7 @@ ends_done : (a : RequestContent) (found : Option FileText) (s : SessionState) �
 unfolding session.turn
 ends_done (asked.Board command.Disconnect) found s is opened = rw opened refl
 ends_done (asked.Editor editor.Terminate) found s is opened = rw opened refl
+ends_done (asked.Editor (editor.Evaluate expression context.Watch)) found s is opened = absurd cc
 ends_done (asked.Editor (editor.Evaluate expression context.Other)) found s is opened = absurd cc
 ends_done (asked.Board c) found s is opened = absurd cc
 ends_done (asked.Editor c) found s is opened = absurd cc
@@ -248,6 +252,8 @@ look_command (command.Source path) is = record { loads = refl; input = λ r. ref
 look_command other is = absurd cc
 
 look_editing : (c : EditorCommand) → mid_search (asked.Editor c) ≡ mid.Look → IsNoChange (asked.Editor c)
+look_editing (editor.Evaluate expression context.Watch) is =
+    record { loads = refl; input = λ r. refl; back = refl }
 look_editing (editor.Evaluate expression context.Other) is =
     record { loads = refl; input = λ r. refl; back = refl }
 look_editing editor.ExceptionInfo is = record { loads = refl; input = λ r. refl; back = refl }
@@ -257,6 +263,8 @@ look_editing (editor.Disassemble address offset instruction_offset count) is =
     record { loads = refl; input = λ r. refl; back = refl }
 look_editing editor.LoadedSources is = record { loads = refl; input = λ r. refl; back = refl }
 look_editing (editor.GotoTargets path line) is = record { loads = refl; input = λ r. refl; back = refl }
+look_editing (editor.BreakpointLocations path first last) is =
+    record { loads = refl; input = λ r. refl; back = refl }
 look_editing other is = absurd cc
 
 look_changes : (a : RequestContent) → mid_search a ≡ mid.Look → IsNoChange a
@@ -324,3 +332,31 @@ looks_leave a found v look of =
 pub looks_all : (inputs : List Input) (a : RequestContent) (found : Option FileText)
     → mid_search a ≡ mid.Look → (turn a found (after_all inputs)).state ≡ tried_again (after_all inputs)
 looks_all inputs a found look = looks_leave a found (after_all inputs) look (recording_is inputs)
+
+hover_meant : (has_commands : Bool) (inputs : List Input) (found : Option FileText) (line : Text)
+    → (turn (as_meant has_commands (asked.Editor (editor.Evaluate line context.Other))) found
+    (after_all inputs)).state ≡ tried_again (after_all inputs)
+hover_meant true inputs found line =
+    looks_all inputs (asked.Editor (editor.Evaluate line context.Other)) found refl
+hover_meant false inputs found line =
+    looks_all inputs (asked.Editor (editor.Evaluate line context.Other)) found refl
+
+pub hover_leaves : (inputs : List Input) (r : EditorRequest) (found : Option FileText) (line : Text)
+    → r.asked ≡ asked.Editor (editor.Evaluate line context.Other)
+    → (request_told r found (after_all inputs)).state ≡ tried_again (after_all inputs)
+hover_leaves inputs r found line is =
+    let v = after_all inputs in
+    let has_commands = has_watch_commands v.session.settings.program in
+    subst (λ a. (turn (as_meant has_commands a) found v).state ≡ tried_again v) (sym is)
+    (hover_meant has_commands inputs found line)
+
+pub watch_leaves : (inputs : List Input) (r : EditorRequest) (found : Option FileText) (line : Text)
+    → WatchesOnlyLook (after_all inputs) → r.asked ≡ asked.Editor (editor.Evaluate line context.Watch)
+    → (request_told r found (after_all inputs)).state ≡ tried_again (after_all inputs)
+watch_leaves inputs r found line none is =
+    let v = after_all inputs in
+    let watch = asked.Editor (editor.Evaluate line context.Watch) in
+    subst (λ a. (turn (as_meant (has_watch_commands v.session.settings.program) a) found v).state
+    ≡ tried_again v) (sym is)
+    (subst (λ b. (turn (as_meant b watch) found v).state ≡ tried_again v) (sym none)
+    (looks_all inputs watch found refl))

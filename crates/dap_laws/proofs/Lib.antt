@@ -5,3 +5,4 @@ pub mod TellLemmas
 pub mod HoldLemmas
 pub mod StopLemmas
 pub mod EndLemmas
+pub mod PointLemmas

@@ -26,7 +26,7 @@ use Rattle.dap_record.specs.MidSearch.{mid_search}
 use Rattle.dap_record.specs.declared.mid_search.MidSearch.TheVariants as mid
 use Rattle.dap_record.specs.Turns.{RecordedTurn, turn_of, turn}
 use Rattle.dap_record.specs.Slices.{RecordedTold, steps_on, with_inputs_due, recorded_slice, slice_limit}
-use Rattle.dap_record.specs.Slices.{slice_told, Input, request, slice, step, play_all}
+use Rattle.dap_record.specs.Slices.{slice_told, Input, request, slice, step, play_all, meant_by}
 use Rattle.dap_record.proofs.RunLemmas.{same_input, same_then}
 use Rattle.dap_record.proofs.RequestLemmas.{after_made, not_begun, board_with_input}
 use Rattle.dap_record.proofs.RecordedLemmas.{look_leaves}
@@ -201,7 +201,7 @@ sliced finds v of =
 
 pub recording_step : (input : Input) (v : RecordedState) → IsRecordingOfIf v.recording v.session
     → IsRecordingOfIf (step input v).state.recording (step input v).state.session
-recording_step (request r found) v of = turned r.asked found v of
+recording_step (request r found) v of = turned (meant_by r v) found v of
 recording_step (slice finds) v of = sliced finds v of
 
 recording_played : (inputs : List Input) (v : RecordedState) → IsRecordingOfIf v.recording v.session

@@ -16,7 +16,11 @@ use Rattle.dap_editor.specs.declared.message.EditorStop.{EditorStop}
 use Rattle.dap_editor.specs.declared.message.EditorStop.TheVariants.{Board as AtBoard}
 use Rattle.dap_editor.specs.declared.message.Message.{Message}
 use Rattle.dap_editor.specs.declared.message.Message.TheVariants as message
+use Rattle.dap_editor.specs.declared.request.EditorCommand.TheVariants as editor
+use Rattle.dap_editor.specs.declared.request.EvaluateContext.TheVariants as context
 use Rattle.dap_editor.specs.declared.request.RequestContent.{RequestContent}
+use Rattle.dap_editor.specs.declared.request.RequestContent.TheVariants as asked
+use Rattle.dap_inputs.specs.Inputs.{as_meant}
 use Rattle.dap_history.specs.declared.input.Input.{Input as RunInput}
 use Rattle.dap_history.specs.declared.input.Input.TheVariants as input
 use Rattle.dap_history.specs.declared.input.Recorded.{Recorded}
@@ -46,7 +50,7 @@ use Rattle.dap_record.specs.Recordings.{forgets_by, is_behind, inputs_ahead, aft
 use Rattle.dap_record.specs.Backward.{found_by}
 use Rattle.dap_record.specs.Turns.{RecordedTurn, recorded_turn, forgotten_events, count_of, turn_of, turn}
 use Rattle.dap_record.specs.Slices.{RecordedTold, new_messages, recorded_slice, slice_limit}
-use Rattle.dap_record.specs.Slices.{slice_told, Input, request, slice, step, play_all}
+use Rattle.dap_record.specs.Slices.{slice_told, Input, request, slice, step, play_all, meant_by}
 use Rattle.dap_laws.specs.Recorded.{after_all, IsRecordingOfIf, loads, EndsAreTold}
 use Rattle.dap_laws.proofs.CaseLemmas.{turn_for, of_turn, of_back, of_slice}
 use Rattle.dap_laws.proofs.RecordingLemmas.{recording_in, recording_step}
@@ -263,7 +267,7 @@ follows_slice finds v stands =
 follows_step : (input : Input) (v : RecordedState) → Stands v
     → Follows (seen v.session) (step input v).messages (seen (step input v).state.session)
 follows_step (request r found) v stands =
-    let follows = follows_asked r.asked found v stands in
+    let follows = follows_asked (meant_by r v) found v stands in
     record { reached = follows.reached; stops = follows.stops; ends = follows.ends }
 follows_step (slice finds) v stands = follows_slice finds v stands
 
@@ -356,10 +360,22 @@ quiet_slice finds v stands dead =
           never_back v.session stands.reached dead (recording_in v r is stands.recording).can;
     })
 
+-- what is meant loads a program if what is asked does
+meant_loads : (has_commands : Bool) (a : RequestContent) → asks_to_load (as_meant has_commands a)
+    ≡ asks_to_load a
+meant_loads false a = refl
+meant_loads true (asked.Board c) = refl
+meant_loads true (asked.Faulty fault) = refl
+meant_loads true (asked.Editor (editor.Evaluate line context.Repl)) = refl
+meant_loads true (asked.Editor (editor.Evaluate line context.Watch)) = refl
+meant_loads true (asked.Editor (editor.Evaluate line context.Other)) = refl
+meant_loads true (asked.Editor c) = refl
+
 quiet_step : (input : Input) (v : RecordedState) → Stands v → is_live v.session.settings.program ≡ false
     → loads input ≡ false → events_in (step input v).messages ≡ []
 quiet_step (request r found) v stands dead is =
-    ap (λ es. events_in (as_messages es)) (quiet_asked r.asked found v stands dead is)
+    ap (λ es. events_in (as_messages es))
+    (quiet_asked (meant_by r v) found v stands dead (meant_loads _ r.asked ∙ is))
 quiet_step (slice finds) v stands dead is = quiet_slice finds v stands dead
 
 pub ends_told_so : (inputs : List Input) → EndsAreTold (after_all inputs)

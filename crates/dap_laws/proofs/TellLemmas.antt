@@ -25,7 +25,7 @@ use Rattle.dap_session.proofs.LawLemmas.{IsSilent, silent-append, silent_turn, s
 use Rattle.dap_record.specs.Recordings.{Recording, RecordedState, input_made, forgets_by, is_behind}
 use Rattle.dap_record.specs.Turns.{RecordedTurn, forgotten_events, count_of, turn_of, turn}
 use Rattle.dap_record.specs.Slices.{RecordedTold, new_messages, steps_to, slice_limit, slice_told, Input}
-use Rattle.dap_record.specs.Slices.{request, slice, step, play_all}
+use Rattle.dap_record.specs.Slices.{request, slice, step, play_all, meant_by}
 use Rattle.dap_laws.specs.Recorded.{request_in, callers_asking, written_by, all_written}
 use Rattle.dap_laws.proofs.CaseLemmas.{turn_for, of_turn, of_back, of_slice}
 
@@ -59,7 +59,7 @@ answered_slice finds v =
 answered_step : (input : Input) (v : RecordedState)
     → callers_answered (step input v).messages ≡ callers_asking (input ∷ [])
 answered_step (request r found) v =
-    ap (λ rest. caller_of r ∷ rest) (callers_answered-told (turn r.asked found v).events)
+    ap (λ rest. caller_of r ∷ rest) (callers_answered-told (turn (meant_by r v) found v).events)
 answered_step (slice finds) v = answered_slice finds v
 
 pub answered_played : (inputs : List Input) (v : RecordedState)
@@ -149,7 +149,7 @@ written_slice finds v =
     })
 
 written_step : (input : Input) (v : RecordedState) → console_of (step input v).messages ≡ written_by input v
-written_step (request r found) v = silent_request r.asked found v
+written_step (request r found) v = silent_request (meant_by r v) found v
 written_step (slice finds) v = written_slice finds v
 
 pub written_played : (inputs : List Input) (v : RecordedState)

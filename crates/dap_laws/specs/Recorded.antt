@@ -17,7 +17,7 @@ use Rattle.dap_program.specs.declared.messages.RequestId.{RequestId}
 use Rattle.dap_program.specs.declared.messages.FollowUp.TheVariants.{Stopped}
 use Rattle.dap_program.specs.Messages.{as_messages, events_of}
 use Rattle.dap_program.specs.SliceEnds.{slice_end_within}
-use Rattle.dap_session.specs.States.{SessionState, wants_slice, with_waits}
+use Rattle.dap_session.specs.States.{SessionState, wants_slice, with_waits, has_watch_commands}
 use Rattle.dap_session.specs.Rewinds.{can_go_back, rewound}
 use Rattle.dap_session.specs.Slices.{Told, caller_of}
 use Rattle.dap_session.specs.Laws.{SameParts, LeavesAll, written_in, asks_to_load, has_run, has_begun}
@@ -124,6 +124,10 @@ RefusalLeaves v t = (text : Text) → t.outcome ≡ Refused text → LeavesRecor
 -- the same session; a run that waits is tried again
 abbrev pub tried_again : RecordedState → RecordedState
 tried_again v = record v { session = with_waits false v.session }
+
+-- the launch doesn't let a watch be a line of the prompt
+abbrev pub WatchesOnlyLook : RecordedState → Type 0
+WatchesOnlyLook v = has_watch_commands v.session.settings.program ≡ false
 
 -- ---- the ends of programs
 

@@ -4,5 +4,6 @@
 // that the recorded run has. Nothing here is called.
 #![tactic(auto)]
 
+pub mod points;
 pub mod recorded;
 pub mod session;

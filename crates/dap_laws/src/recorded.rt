@@ -1,7 +1,11 @@
 //! What holds of every session whose run is recorded (dap_record): where it is, and where going back leads.
 ghost use Rattle.std.specs.Prelude.{◌≡◌, ◌∷◌, List, Bool, true, Option, Some};
 ghost use Rattle.lab_core.specs.declared.answer.End.{End};
+ghost use Rattle.base_text.specs.Bytes.{Text};
+ghost use Rattle.dap_editor.specs.declared.request.EditorCommand.TheVariants as editor;
+ghost use Rattle.dap_editor.specs.declared.request.EvaluateContext.TheVariants as context;
 ghost use Rattle.dap_editor.specs.declared.request.EditorRequest.{EditorRequest};
+ghost use Rattle.dap_editor.specs.declared.request.RequestContent.TheVariants as asked;
 ghost use Rattle.dap_editor.specs.declared.request.RequestContent.{RequestContent};
 ghost use Rattle.dap_history.specs.declared.goal.Goal.{Goal};
 ghost use Rattle.dap_launch.specs.declared.file.FileText.{FileText};
@@ -14,10 +18,10 @@ ghost use Rattle.dap_record.specs.declared.mid_search.MidSearch.TheVariants as m
 ghost use Rattle.dap_record.specs.MidSearch.{mid_search};
 ghost use Rattle.dap_record.specs.Recordings.{Recording, RecordedState, recorded_before_requests};
 ghost use Rattle.dap_record.specs.Turns.{turn};
-ghost use Rattle.dap_record.specs.Slices.{Input, request_told, slice_told, slice_limit, play_all};
+ghost use Rattle.dap_record.specs.Slices.{Input, meant_by, request_told, slice_told, slice_limit, play_all};
 ghost use Rattle.dap_laws.specs.Recorded.{after_all, IsRecordingOfIf, IsSamePlaceIf, MeetsGoal};
 ghost use Rattle.dap_laws.specs.Recorded.{callers_asking, all_written, RefusalLeaves, tried_again};
-ghost use Rattle.dap_laws.specs.Recorded.{EndsAreTold, EndsNext, session_told};
+ghost use Rattle.dap_laws.specs.Recorded.{EndsAreTold, EndsNext, session_told, WatchesOnlyLook};
 
 /// At every moment the board is the one that the recorded run has after so many steps: machine, devices and
 /// trace are the same. A run is recorded only while it can go back.
@@ -51,8 +55,8 @@ pub fn requests_are_answered()
 /// The response to a request goes out before the events that it causes.
 pub fn response_is_first()
     ensures { (r : EditorRequest) (found : Option FileText) (v : RecordedState)
-        → (request_told r found v).messages ≡ response (caller_of r) (turn r.asked found v).outcome
-        ∷ as_messages (turn r.asked found v).events }
+        → (request_told r found v).messages ≡ response (caller_of r) (turn (meant_by r v) found v).outcome
+        ∷ as_messages (turn (meant_by r v) found v).events }
 {}
 
 /// A request that is refused leaves the board, the program, the breakpoints, the recording and the search as
@@ -81,6 +85,20 @@ pub fn looks_leave_all()
     ensures { (inputs : List Input) (a : RequestContent) (found : Option FileText)
         → mid_search a ≡ mid.Look
         → (turn a found (after_all inputs)).state ≡ tried_again (after_all inputs) }
+{}
+
+/// A hover leaves the board, the recording and the search as they were.
+pub fn hovers_leave_all()
+    ensures { (inputs : List Input) (r : EditorRequest) (found : Option FileText) (line : Text)
+        → r.asked ≡ asked.Editor (editor.Evaluate line context.Other)
+        → (request_told r found (after_all inputs)).state ≡ tried_again (after_all inputs) }
+{}
+
+/// So does a watch, unless the launch lets it be a line of the prompt.
+pub fn watches_leave_all()
+    ensures { (inputs : List Input) (r : EditorRequest) (found : Option FileText) (line : Text)
+        → WatchesOnlyLook (after_all inputs) → r.asked ≡ asked.Editor (editor.Evaluate line context.Watch)
+        → (request_told r found (after_all inputs)).state ≡ tried_again (after_all inputs) }
 {}
 
 /// What goes out as standard output is every byte that the run's steps write by OUT 1, in order. Steps that a

@@ -1,2 +1,4 @@
 pub mod Points
 pub mod Placed
+pub mod Boards
+pub mod Changes

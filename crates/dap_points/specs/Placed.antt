@@ -1,45 +1,82 @@
--- Breakpoints with their numbers, and the lines of a board's list (Debug Adapter Protocol, "Breakpoint").
-use Rattle.std.specs.Prelude.{ℕ, ◌+◌, ◌*◌, ◌-◌, List, [], ◌∷◌, ◌++◌, length, nat_lt, nat_le, Bool, ◌&&◌}
-use Rattle.std.specs.Prelude.{is_some, Option, Some, None, option_to_list, if◌then◌else◌}
-use Rattle.std.specs.List.{filter_map}
+-- Breakpoints as an editor is told of them: their numbers, where each is met, or why it isn't (Debug Adapter
+-- Protocol, "Breakpoint").
+use Rattle.std.specs.Prelude.{ℕ, ◌+◌, ◌*◌, ◌-◌, ◌==◌, List, [], ◌∷◌, Bool, true, false, if◌then◌else◌}
+use Rattle.std.specs.Prelude.{Option, Some, None}
+use Rattle.dap_editor.specs.declared.request.LineBreakpoint.{LineBreakpoint}
+use Rattle.dap_editor.specs.declared.request.FunctionBreakpoint.{FunctionBreakpoint}
+use Rattle.dap_editor.specs.declared.message.BreakpointNote.{BreakpointNote}
+use Rattle.dap_editor.specs.declared.message.BreakpointNote.TheVariants as note
 use Rattle.dap_editor.specs.declared.message.PlacedBreakpoint.{PlacedBreakpoint}
+use Rattle.dap_points.specs.declared.placed.LandedLine.{LandedLine}
+use Rattle.dap_points.specs.declared.placed.FoundLabel.{FoundLabel}
 
 -- the breakpoint at a place of a source's list; labels have the number 0
 abbrev pub id_at : ℕ → ℕ → ℕ
 id_at number index = 256 * number + (index + 1)
 
--- the breakpoint on a line of a text with `count` lines
-abbrev pub line_point : ℕ → ℕ → ℕ → ℕ → PlacedBreakpoint
-line_point number count index line = record {
-  id = id_at number index;
-  line = Some line;
-  is_verified = nat_le 1 line && nat_le line count;
-}
+-- it is met on this line
+abbrev pub met_at : ℕ → ℕ → Option BreakpointNote → PlacedBreakpoint
+met_at id line n = record { id = id; line = Some line; is_verified = true; note = n }
 
--- the breakpoints on these lines, of which the first has this place
-abbrev pub line_points : ℕ → ℕ → ℕ → List ℕ → List PlacedBreakpoint
-line_points number count index [] = []
-line_points number count index (line ∷ lines) =
-    line_point number count index line ∷ line_points number count (index + 1) lines
+-- it is never met
+abbrev pub unmet_at : ℕ → Option ℕ → BreakpointNote → PlacedBreakpoint
+unmet_at id line why = record { id = id; line = line; is_verified = false; note = Some why }
 
--- The breakpoint at a label with this line, if it has one. The board has room for the first `room` labels.
-abbrev pub label_point : ℕ → ℕ → Option ℕ → PlacedBreakpoint
-label_point room index line = record {
-  id = id_at 0 index;
-  line = line;
-  is_verified = is_some line && nat_lt index room;
-}
+-- ---- on lines of the program
 
--- ---- the lines of a board's list
+abbrev pub moved_note : ℕ → ℕ → Option BreakpointNote
+moved_note from line = if from == line then None else Some (note.Moved from)
 
--- the line of a verified breakpoint
-abbrev pub verified_line : PlacedBreakpoint → Option ℕ
-verified_line p = if p.is_verified then p.line else None
+-- a plain one, with the first line with code at or below its own
+abbrev pub landed_point : ℕ → ℕ → Option ℕ → PlacedBreakpoint
+landed_point id line None = unmet_at id (Some line) (note.NoCode line)
+landed_point id line (Some landing) = met_at id landing (moved_note line landing)
 
--- those of a source, and those of labels
-abbrev pub wanted_lines : List ℕ → List PlacedBreakpoint → List ℕ
-wanted_lines lines labels = lines ++ filter_map verified_line labels
+abbrev pub line_point : ℕ → LandedLine → PlacedBreakpoint
+line_point id l =
+    if l.asked.is_plain then landed_point id l.asked.line l.landing
+    else unmet_at id (Some l.asked.line) note.Conditional
 
--- the number of labels for which there is room beside these lines
-abbrev pub room_behind : List ℕ → ℕ
-room_behind lines = 256 - length lines
+-- all of them, of which the first has this place
+abbrev pub line_points : ℕ → ℕ → List LandedLine → List PlacedBreakpoint
+line_points number index [] = []
+line_points number index (l ∷ ls) =
+    line_point (id_at number index) l ∷ line_points number (index + 1) ls
+
+-- ---- on lines of another source
+
+-- why it isn't met, if it is plain
+abbrev pub why_unmet : BreakpointNote → Bool → BreakpointNote
+why_unmet why is_plain = if is_plain then why else note.Conditional
+
+abbrev pub other_points : BreakpointNote → ℕ → ℕ → List LineBreakpoint → List PlacedBreakpoint
+other_points why number index [] = []
+other_points why number index (b ∷ bs) =
+    unmet_at (id_at number index) (Some b.line) (why_unmet why b.is_plain)
+    ∷ other_points why number (index + 1) bs
+
+-- ---- at labels
+
+-- with room for so many, a plain one at a label on this line, if the program has it
+abbrev pub at_label : ℕ → ℕ → Option ℕ → PlacedBreakpoint
+at_label id room None = unmet_at id None note.NoLabel
+at_label id room (Some line) = if room == 0 then unmet_at id (Some line) note.TooMany else met_at id line None
+
+abbrev pub label_point : ℕ → ℕ → FoundLabel → PlacedBreakpoint
+label_point id room l = if l.is_plain then at_label id room l.line else unmet_at id l.line note.Conditional
+
+-- the room behind a breakpoint
+abbrev pub room_after : ℕ → PlacedBreakpoint → ℕ
+room_after room p = if p.is_verified then room - 1 else room
+
+abbrev pub label_points : ℕ → ℕ → List FoundLabel → List PlacedBreakpoint
+label_points room index [] = []
+label_points room index (l ∷ ls) =
+    label_point (id_at 0 index) room l
+    ∷ label_points (room_after room (label_point (id_at 0 index) room l)) (index + 1) ls
+
+-- as long as there is no program
+abbrev pub unlaunched_labels : ℕ → List FunctionBreakpoint → List PlacedBreakpoint
+unlaunched_labels index [] = []
+unlaunched_labels index (f ∷ fs) =
+    unmet_at (id_at 0 index) None (why_unmet note.NotLaunched f.is_plain) ∷ unlaunched_labels (index + 1) fs

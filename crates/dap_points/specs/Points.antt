@@ -1,16 +1,18 @@
--- The breakpoints that an editor has set: the lines of each source, and labels.
+-- The breakpoints that an editor has set: on the lines of each source, and at labels.
 use Rattle.std.specs.Prelude.{ℕ, ◌+◌, List, [], ◌∷◌, ◌++◌, length, take, slice_get, slice_set, nat_lt, Bool}
 use Rattle.std.specs.Prelude.{true, Option, Some, None}
 use Rattle.std.specs.List.{position}
 use Rattle.std.specs.Str.{bytes_eq}
 use Rattle.base_text.specs.Bytes.{Text}
+use Rattle.dap_editor.specs.declared.request.LineBreakpoint.{LineBreakpoint}
+use Rattle.dap_editor.specs.declared.request.FunctionBreakpoint.{FunctionBreakpoint}
 use Rattle.dap_points.specs.declared.points.SourceLines.{SourceLines}
 
 -- the view of a value of this type
 pub record WantedBreakpointsState : Type 0 where
   -- in the order in which the sources were added
   pub lists : List SourceLines
-  pub functions : List Text
+  pub functions : List FunctionBreakpoint
 
 abbrev pub no_points : WantedBreakpointsState
 no_points = record { lists = []; functions = [] }
@@ -36,7 +38,7 @@ may_keep None count = nat_lt count 1024
 abbrev pub has_place : Text → List SourceLines → Bool
 has_place path lists = may_keep (place_of path lists) (length lists)
 
-abbrev pub lines_in : Option SourceLines → List ℕ
+abbrev pub lines_in : Option SourceLines → List LineBreakpoint
 lines_in None = []
 lines_in (Some l) = l.lines
 
@@ -44,15 +46,15 @@ abbrev pub list_at : List SourceLines → Option ℕ → Option SourceLines
 list_at lists None = None
 list_at lists (Some place) = slice_get lists place
 
--- the lines of a source, of which at most 256 are used
-abbrev pub lines_at : Text → List SourceLines → List ℕ
+-- the breakpoints of a source, of which at most 256 are used
+abbrev pub lines_at : Text → List SourceLines → List LineBreakpoint
 lines_at path lists = take 256 (lines_in (list_at lists (place_of path lists)))
 
 abbrev pub kept_at : Option ℕ → SourceLines → List SourceLines → List SourceLines
 kept_at (Some place) l lists = slice_set lists place l
 kept_at None l lists = lists ++ l ∷ []
 
--- the source has these lines from now on
-abbrev pub with_lines : Text → List ℕ → WantedBreakpointsState → WantedBreakpointsState
+-- the source has these breakpoints from now on
+abbrev pub with_lines : Text → List LineBreakpoint → WantedBreakpointsState → WantedBreakpointsState
 with_lines path lines p =
     record p { lists = kept_at (place_of path p.lists) (record { path = path; lines = lines }) p.lists }

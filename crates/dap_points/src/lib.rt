@@ -1,8 +1,13 @@
 // The breakpoints that an editor has set: lines of sources, and labels (Debug Adapter Protocol,
 // `setBreakpoints` and `setFunctionBreakpoints`). `WantedBreakpoints` keeps them: each source keeps its
-// place, so that a breakpoint's number stays the same. `placed` numbers them, says which are verified, and
-// lists the lines at which a board stops. At most 256 of a source, and 256 of the labels, are placed.
+// place, so that a breakpoint's number stays the same. `placed` numbers them and says where each is met, or
+// why it isn't; `board` lists the lines at which a board stops, at most 256; `changes` finds the breakpoints
+// that aren't what they were.
 #![tactic(auto)]
 
+pub mod board;
+pub mod changes;
+pub mod laws;
+pub mod note;
 pub mod placed;
 pub mod points;

@@ -1,13 +1,30 @@
-//! Breakpoints with their numbers.
-ghost use Rattle.std.specs.Prelude.{◌≡◌, ◌<◌, ◌≤◌, ◌+◌, ◌++◌, ◌∷◌, [], length, IfOk, OnOk, OnErr};
-ghost use Rattle.std.specs.Prelude.{option_to_list};
-ghost use Rattle.dap_points.specs.Placed.{id_at, line_point, line_points, label_point, verified_line};
-ghost use Rattle.dap_points.specs.Placed.{wanted_lines, room_behind};
+//! Breakpoints as an editor is told of them.
+ghost use Rattle.std.specs.Prelude.{◌≡◌, ◌<◌, ◌≤◌, ◌+◌, length, IfOk};
+ghost use Rattle.dap_points.specs.Placed.{id_at, met_at, unmet_at, moved_note, landed_point, line_point};
+ghost use Rattle.dap_points.specs.Placed.{line_points};
+ghost use Rattle.dap_points.specs.Placed.{why_unmet, other_points, at_label, label_point};
+ghost use Rattle.dap_points.specs.Placed.{room_after, label_points, unlaunched_labels};
 
-use crate::points::MOST_POINTS;
+use crate::note::copy_note;
 use base_text::sequence::Sequence;
-use dap_editor::message::PlacedBreakpoint;
+use dap_editor::message::{BreakpointNote, PlacedBreakpoint};
+use dap_editor::request::{FunctionBreakpoint, LineBreakpoint};
 use std::alloc::{AllocError, Global};
+
+/// A breakpoint on a line of the program, and the first line with code at or below it, if there is one.
+#[derive(Clone, Copy)]
+pub struct LandedLine {
+    pub asked: LineBreakpoint,
+    pub landing: Option<u32>,
+}
+
+/// The line of a label at which a breakpoint is to be, if the program has the label.
+#[derive(Clone, Copy)]
+pub struct FoundLabel {
+    pub line: Option<u32>,
+    /// Whether the breakpoint has no condition, no hit count and no log message.
+    pub is_plain: bool,
+}
 
 fn id_at(number: u32, index: usize) -> u32
     requires number { number ≤ 1025 }
@@ -17,88 +34,183 @@ fn id_at(number: u32, index: usize) -> u32
     256 * number + (index as u32 + 1)
 }
 
-fn line_point(number: u32, count: usize, index: usize, line: u32) -> PlacedBreakpoint
-    requires number { number ≤ 1025 }
-    requires index { index < 256 }
-    ensures { result ≡ line_point number count index line }
+// A breakpoint that is met on this line.
+fn met_at(id: u32, line: u32, note: Option<BreakpointNote>) -> PlacedBreakpoint
+    ensures { result ≡ met_at id line note }
 {
     PlacedBreakpoint {
-        id: id_at(number, index),
+        id,
         line: Some(line),
-        is_verified: 1 <= line && line as usize <= count,
+        is_verified: true,
+        note,
     }
 }
 
-/// The breakpoints on these lines of the source with this number, whose text has `count` lines.
+// A breakpoint that is never met.
+fn unmet_at(id: u32, line: Option<u32>, why: BreakpointNote) -> PlacedBreakpoint
+    ensures { result ≡ unmet_at id line why }
+{
+    PlacedBreakpoint {
+        id,
+        line,
+        is_verified: false,
+        note: Some(why),
+    }
+}
+
+fn moved_note(from: u32, line: u32) -> Option<BreakpointNote>
+    ensures { result ≡ moved_note from line }
+{
+    if from == line {
+        None
+    } else {
+        Some(BreakpointNote::Moved { from })
+    }
+}
+
+fn landed_point(id: u32, line: u32, landing: Option<u32>) -> PlacedBreakpoint
+    ensures { result ≡ landed_point id line landing }
+{
+    match landing {
+        None => unmet_at(id, Some(line), BreakpointNote::NoCode { line }),
+        Some(landing) => met_at(id, landing, moved_note(line, landing)),
+    }
+}
+
+fn line_point(id: u32, line: LandedLine) -> PlacedBreakpoint
+    ensures { result ≡ line_point id line }
+{
+    if line.asked.is_plain {
+        landed_point(id, line.asked.line, line.landing)
+    } else {
+        unmet_at(id, Some(line.asked.line), BreakpointNote::Conditional)
+    }
+}
+
+/// The breakpoints on these lines of the program, which is the source with this number.
 pub fn line_points(
     alloc: Global,
     number: u32,
-    count: usize,
-    lines: &[u32],
+    lines: &[LandedLine],
 ) -> Result<Sequence<PlacedBreakpoint>, AllocError>
     requires number { number ≤ 1025 }
     requires few { length lines.now ≤ 256 }
-    ensures { IfOk result (λ points. points ≡ line_points number count 0 lines.now) }
+    ensures { IfOk result (λ points. points ≡ line_points number 0 lines.now) }
 {
     let mut points = Sequence::new(alloc);
     let mut index = 0;
     let mut left = lines;
     while let Some((line, later)) = left.split_first() {
-        points.push(line_point(number, count, index, *line))?;
+        points.push(line_point(id_at(number, index), *line))?;
         index += 1;
         left = later;
     }
     Ok(points)
 }
 
-/// The breakpoint at a label with this line, if it has one. The first `room` labels can be verified.
-pub fn label_point(room: usize, index: usize, line: Option<u32>) -> PlacedBreakpoint
-    requires { index < 256 }
-    ensures { result ≡ label_point room index line }
+fn why_unmet(why: &BreakpointNote, is_plain: bool) -> Result<BreakpointNote, AllocError>
+    ensures { IfOk result (λ note. note ≡ why_unmet why.now is_plain) }
 {
-    PlacedBreakpoint {
-        id: id_at(0, index),
-        line,
-        is_verified: line.is_some() && index < room,
+    if is_plain {
+        copy_note(why)
+    } else {
+        Ok(BreakpointNote::Conditional)
     }
 }
 
-/// The number of labels for which there is room beside these lines.
-pub fn room_behind(lines: &[u32]) -> usize
-    ensures { result ≡ room_behind lines.now }
-{
-    MOST_POINTS.saturating_sub(lines.len())
-}
-
-fn verified_line(point: &PlacedBreakpoint) -> Option<u32>
-    ensures { result ≡ verified_line point.now }
-{
-    if point.is_verified { point.line } else { None }
-}
-
-// Adds a line, if there is one.
-fn push_line(lines: &mut Sequence<u32>, line: Option<u32>) -> Result<(), AllocError>
-    ensures { OnOk result (lines.new ≡ lines.old ++ option_to_list line) }
-{
-    if let Some(line) = line {
-        lines.push(line)?;
-    }
-    Ok(())
-}
-
-/// The lines at which a board stops: those of a source, and those of verified labels.
-pub fn wanted_lines(
+/// The breakpoints on these lines of the source with this number, which isn't the program. `why` says why
+/// they aren't met.
+pub fn other_points(
     alloc: Global,
-    lines: &[u32],
-    labels: &[PlacedBreakpoint],
-) -> Result<Sequence<u32>, AllocError>
-    ensures { IfOk result (λ all. all ≡ wanted_lines lines.now labels.now) }
+    why: &BreakpointNote,
+    number: u32,
+    lines: &[LineBreakpoint],
+) -> Result<Sequence<PlacedBreakpoint>, AllocError>
+    requires number { number ≤ 1025 }
+    requires few { length lines.now ≤ 256 }
+    ensures { IfOk result (λ points. points ≡ other_points why.now number 0 lines.now) }
 {
-    let mut all = Sequence::from(lines.to_vec(alloc)?);
-    let mut left = labels;
-    while let Some((label, later)) = left.split_first() {
-        push_line(&mut all, verified_line(label))?;
+    let mut points = Sequence::new(alloc);
+    let mut index = 0;
+    let mut left = lines;
+    while let Some((line, later)) = left.split_first() {
+        let note = why_unmet(why, line.is_plain)?;
+        points.push(unmet_at(id_at(number, index), Some(line.line), note))?;
+        index += 1;
         left = later;
     }
-    Ok(all)
+    Ok(points)
+}
+
+fn at_label(id: u32, room: usize, line: Option<u32>) -> PlacedBreakpoint
+    ensures { result ≡ at_label id room line }
+{
+    match line {
+        None => unmet_at(id, None, BreakpointNote::NoLabel),
+        Some(line) if room == 0 => unmet_at(id, Some(line), BreakpointNote::TooMany),
+        Some(line) => met_at(id, line, None),
+    }
+}
+
+fn label_point(id: u32, room: usize, label: FoundLabel) -> PlacedBreakpoint
+    ensures { result ≡ label_point id room label }
+{
+    if label.is_plain {
+        at_label(id, room, label.line)
+    } else {
+        unmet_at(id, label.line, BreakpointNote::Conditional)
+    }
+}
+
+fn room_after(room: usize, point: &PlacedBreakpoint) -> usize
+    ensures { result ≡ room_after room point.now }
+{
+    if point.is_verified {
+        room.saturating_sub(1)
+    } else {
+        room
+    }
+}
+
+/// The breakpoints at labels of the program, of which so many can be verified.
+pub fn label_points(
+    alloc: Global,
+    room: usize,
+    labels: &[FoundLabel],
+) -> Result<Sequence<PlacedBreakpoint>, AllocError>
+    requires { length labels.now ≤ 256 }
+    ensures { IfOk result (λ points. points ≡ label_points room 0 labels.now) }
+{
+    let mut points = Sequence::new(alloc);
+    let mut index = 0;
+    let mut free = room;
+    let mut left = labels;
+    while let Some((label, later)) = left.split_first() {
+        let point = label_point(id_at(0, index), free, *label);
+        free = room_after(free, &point);
+        points.push(point)?;
+        index += 1;
+        left = later;
+    }
+    Ok(points)
+}
+
+/// The breakpoints at labels, as long as there is no program.
+pub fn unlaunched_labels(
+    alloc: Global,
+    labels: &[FunctionBreakpoint],
+) -> Result<Sequence<PlacedBreakpoint>, AllocError>
+    requires { length labels.now ≤ 256 }
+    ensures { IfOk result (λ points. points ≡ unlaunched_labels 0 labels.now) }
+{
+    let mut points = Sequence::new(alloc);
+    let mut index = 0;
+    let mut left = labels;
+    while let Some((label, later)) = left.split_first() {
+        let note = why_unmet(&BreakpointNote::NotLaunched, label.is_plain)?;
+        points.push(unmet_at(id_at(0, index), None, note))?;
+        index += 1;
+        left = later;
+    }
+    Ok(points)
 }

@@ -4,6 +4,7 @@ ghost use Rattle.dap_points.specs.Points.{no_points, place_of, number_of, has_pl
 
 use base_text::sequence::Sequence;
 use base_text::text::Text;
+use dap_editor::request::{FunctionBreakpoint, LineBreakpoint};
 use std::alloc::{AllocError, Global};
 use std::marker::Model;
 
@@ -13,19 +14,29 @@ pub const MOST_SOURCES: usize = 1024;
 /// The most lines of a source, and the most labels, that are used.
 pub const MOST_POINTS: usize = 256;
 
-/// The lines of a source at which to set breakpoints, in the order of the request.
+/// The breakpoints of a source, in the order of the request.
 #[derive(Drop)]
 pub struct SourceLines {
     pub path: Text,
-    pub lines: Sequence<u32>,
+    pub lines: Sequence<LineBreakpoint>,
 }
 
-/// The breakpoints that an editor has set: the lines of each source, and labels. A source whose lines are
-/// removed keeps its place.
+impl SourceLines {
+    /// The breakpoints that are used: the first 256.
+    pub fn used(&self) -> &[LineBreakpoint]
+        ensures lines { result.now ≡ take 256 self.now.lines }
+        ensures few { length result.now ≤ 256 }
+    {
+        first(self.lines.as_slice())
+    }
+}
+
+/// The breakpoints that an editor has set: on the lines of each source, and at labels. A source whose
+/// breakpoints are removed keeps its place.
 #[derive(Drop)]
 pub struct WantedBreakpoints {
     lists: Vec<SourceLines>,
-    functions: Sequence<Text>,
+    functions: Sequence<FunctionBreakpoint>,
 }
 
 impl Model for WantedBreakpoints {
@@ -93,27 +104,35 @@ impl WantedBreakpoints {
         }
     }
 
-    /// The lines of a source.
-    pub fn lines_at(&self, path: &str) -> &[u32]
+    /// All sources, of which the first has the number 1.
+    pub fn sources(&self) -> &[SourceLines]
+        ensures sources { result.now ≡ self.now.lists }
+        ensures few { length result.now ≤ 1024 }
+    {
+        &self.lists
+    }
+
+    /// The breakpoints of a source.
+    pub fn lines_at(&self, path: &str) -> &[LineBreakpoint]
         ensures lines { result.now ≡ lines_at path.now self.now.lists }
         ensures few { length result.now ≤ 256 }
     {
         match place_of(&self.lists, path) {
-            Some(place) => first(self.lists[place].lines.as_slice()),
+            Some(place) => self.lists[place].used(),
             None => &[],
         }
     }
 
-    /// The labels.
-    pub fn functions(&self) -> &[Text]
+    /// The breakpoints at labels.
+    pub fn functions(&self) -> &[FunctionBreakpoint]
         ensures labels { result.now ≡ take 256 self.now.functions }
         ensures few { length result.now ≤ 256 }
     {
         first(self.functions.as_slice())
     }
 
-    /// Gives a source these lines, without allocating.
-    pub fn set_lines(&mut self, path: Text, lines: Sequence<u32>)
+    /// Gives a source these breakpoints, without allocating.
+    pub fn set_lines(&mut self, path: Text, lines: Sequence<LineBreakpoint>)
         requires { has_place path self.old.lists ≡ true }
         ensures { self.new ≡ with_lines path lines self.old }
     {
@@ -125,10 +144,10 @@ impl WantedBreakpoints {
         }
     }
 
-    /// Replaces the labels by these.
-    pub fn set_functions(&mut self, names: Sequence<Text>)
-        ensures { self.new ≡ record self.old { functions = names } }
+    /// Replaces the breakpoints at labels by these.
+    pub fn set_functions(&mut self, functions: Sequence<FunctionBreakpoint>)
+        ensures { self.new ≡ record self.old { functions = functions } }
     {
-        self.functions = names;
+        self.functions = functions;
     }
 }

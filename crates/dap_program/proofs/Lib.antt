@@ -2,3 +2,4 @@ pub mod ChangeLemmas
 pub mod LoadLemmas
 pub mod SliceLemmas
 pub mod LineLemmas
+pub mod CodeLineLemmas

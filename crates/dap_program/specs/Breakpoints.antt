@@ -1,31 +1,33 @@
 -- The breakpoints of a program on its board (Debug Adapter Protocol, "Breakpoints").
-use Rattle.std.specs.Prelude.{ℕ, ◌+◌, List, [], ◌∷◌, take, Option, option_map}
+use Rattle.std.specs.Prelude.{ℕ, List, map, take, Option, option_map}
 use Rattle.base_text.specs.Bytes.{Text}
 use Rattle.lab_core.specs.declared.event.Event.TheVariants.{SetBreakpoints}
 use Rattle.lab_core.specs.Board.{Board}
 use Rattle.dap_editor.specs.declared.message.PlacedBreakpoint.{PlacedBreakpoint}
+use Rattle.dap_editor.specs.declared.request.LineBreakpoint.{LineBreakpoint}
+use Rattle.dap_editor.specs.declared.request.FunctionBreakpoint.{FunctionBreakpoint}
 use Rattle.dap_inspect.specs.Labels.{line_of_label}
-use Rattle.dap_points.specs.Placed.{label_point, wanted_lines, room_behind}
+use Rattle.dap_points.specs.declared.placed.FoundLabel.{FoundLabel}
+use Rattle.dap_points.specs.Placed.{line_points, label_points}
+use Rattle.dap_points.specs.Boards.{room_behind, wanted_lines}
 use Rattle.dap_program.specs.Boards.{after}
+use Rattle.dap_program.specs.CodeLines.{landed_at}
 
--- ---- labels
+-- on these lines of the program, which is the source with this number
+abbrev pub lines_on : Board → ℕ → List LineBreakpoint → List PlacedBreakpoint
+lines_on b number lines = line_points number 0 (map (landed_at b) lines)
 
 abbrev pub label_line : Board → Text → Option ℕ
 label_line b name = option_map (λ at. at.line) (line_of_label b name)
 
--- the breakpoints at labels, of which the first has this place
-abbrev pub label_points : Board → ℕ → ℕ → List Text → List PlacedBreakpoint
-label_points b room index [] = []
-label_points b room index (name ∷ names) =
-    label_point room index (label_line b name) ∷ label_points b room (index + 1) names
+abbrev pub found_label : Board → FunctionBreakpoint → FoundLabel
+found_label b f = record { line = label_line b f.name; is_plain = f.is_plain }
 
--- those beside the breakpoints on these lines of the program
-abbrev pub labels_behind : List ℕ → List Text → Board → List PlacedBreakpoint
-labels_behind lines names b = label_points b (room_behind lines) 0 names
+-- at labels, beside the breakpoints on lines
+abbrev pub labels_behind : Board → List PlacedBreakpoint → List FunctionBreakpoint → List PlacedBreakpoint
+labels_behind b lines functions = label_points (room_behind lines) 0 (map (found_label b) functions)
 
--- ---- the board's list
-
--- the board stops at these lines of the program, and at these labels
-abbrev pub board_armed_at : Text → List ℕ → List Text → Board → Board
-board_armed_at path lines names b =
-    after (SetBreakpoints path (take 256 (wanted_lines lines (labels_behind lines names b)))) b
+-- The board stops at these breakpoints on lines of the program, and at these labels. It takes 256 lines,
+-- which are all (`few_wanted` in dap_points).
+abbrev pub board_armed_at : Text → List PlacedBreakpoint → List PlacedBreakpoint → Board → Board
+board_armed_at path lines labels b = after (SetBreakpoints path (take 256 (wanted_lines lines labels))) b

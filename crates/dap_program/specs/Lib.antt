@@ -12,3 +12,4 @@ pub mod Openings
 pub mod Failures
 pub mod Memory
 pub mod Targets
+pub mod CodeLines

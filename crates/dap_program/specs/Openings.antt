@@ -1,6 +1,5 @@
 -- The messages about a program that was loaded (Debug Adapter Protocol, `launch` and `restart`).
-use Rattle.std.specs.Prelude.{List, [], ◌∷◌, ◌++◌, Option, Some, None, if◌then◌else◌}
-use Rattle.std.specs.List.{filter_map}
+use Rattle.std.specs.Prelude.{List, [], ◌∷◌, ◌++◌, map}
 use Rattle.dap_answers.specs.declared.answer.Body.TheVariants.{Empty}
 use Rattle.dap_editor.specs.declared.message.EditorBody.TheVariants.{Board}
 use Rattle.dap_editor.specs.declared.message.EditorEvent.{EditorEvent}
@@ -17,19 +16,14 @@ use Rattle.dap_program.specs.Messages.{events_of}
 abbrev pub accepted_outcome : EditorOutcome
 accepted_outcome = Success (Board Empty)
 
--- an event for each breakpoint that is verified now
-abbrev pub verified_event : PlacedBreakpoint → Option EditorEvent
-verified_event p = if p.is_verified then Some (event.Breakpoint p) else None
-
+-- an event for each breakpoint that isn't what it was
 abbrev pub changed_events : List PlacedBreakpoint → List EditorEvent
-changed_events points = filter_map verified_event points
+changed_events points = map event.Breakpoint points
 
 -- A launch asks for the configuration; a restart keeps it.
 abbrev pub first_events : LoadReason → List EditorEvent
 first_events Launch = event.Initialized ∷ []
 first_events Restart = []
 
-abbrev pub opening_events : LoadReason → List PlacedBreakpoint → List PlacedBreakpoint → FollowUp
-    → List EditorEvent
-opening_events cause lines labels follow =
-    first_events cause ++ (changed_events lines ++ (changed_events labels ++ events_of follow))
+abbrev pub opening_events : LoadReason → List PlacedBreakpoint → FollowUp → List EditorEvent
+opening_events cause changed follow = first_events cause ++ (changed_events changed ++ events_of follow)

@@ -1,9 +1,12 @@
 -- A slice of a program's run, and the messages about it.
-use Rattle.std.specs.Prelude.{◌≡◌, ℕ, List, [], ◌∷◌, ◌++◌, Bool, None, codes, if◌then◌else◌}
-use Rattle.std.specs.List.{filter_map, list_any}
+use Rattle.std.specs.Prelude.{◌≡◌, ℕ, List, [], ◌∷◌, ◌++◌, length, Bool, false, not, ◌&&◌, ◌||◌, ◌==◌}
+use Rattle.std.specs.Prelude.{None, codes}
+use Rattle.std.specs.Prelude.{if◌then◌else◌}
+use Rattle.std.specs.List.{filter_map, list_all, list_any}
 use Rattle.base_text.specs.Bytes.{Bytes}
 use Rattle.base_text.specs.Hexadecimal.{upper_byte, upper_word}
 use Rattle.i80_exec.specs.declared.ports.PortOperation.{PortOperation}
+use Rattle.i80_exec.specs.declared.ports.PortOperation.TheVariants.{In, Out}
 use Rattle.lab_core.specs.declared.answer.SliceOutcome.{SliceOutcome}
 use Rattle.lab_core.specs.declared.answer.SliceOutcome.TheVariants as outcome
 use Rattle.lab_core.specs.declared.answer.End.{End}
@@ -35,6 +38,20 @@ output category bytes = event.Output category bytes None
 abbrev pub console_events : Bytes → List EditorEvent
 console_events [] = []
 console_events (byte ∷ bytes) = output category.Stdout (byte ∷ bytes) ∷ []
+
+-- A program polls the console in vain: port 0 says that no byte waits, or port 1 gives none.
+abbrev pub is_vain_read : PortOperation → Bool
+is_vain_read (In port byte) = (port == 0 && byte == 2) || (port == 1 && byte == 0)
+is_vain_read (Out port byte) = false
+
+-- a whole slice does nothing else at ports
+abbrev pub polls_in_vain : ℕ → List PortOperation → Bool
+polls_in_vain k traffic = k == 4096 && (not (length traffic == 0) && list_all is_vain_read traffic)
+
+-- A slice of k steps asks for a line: by port 3, or, if nothing has asked since one was typed, by polling in
+-- vain.
+abbrev pub asks_line : Bool → ℕ → List PortOperation → Bool
+asks_line has_asked k traffic = list_any wants_line traffic || (not has_asked && polls_in_vain k traffic)
 
 -- how it is typed
 abbrev pub line_question : Bytes
@@ -69,19 +86,25 @@ outcome_events held outcome.Waiting = []
 outcome_events held (outcome.Stop s) = event.Stopped (AtBoard (reason_of s)) ∷ []
 outcome_events held (outcome.End e) = run_end_events (policy_at held e) e
 
--- the events of a slice with these port operations and this outcome
-abbrev pub slice_events : ExceptionFilters → List PortOperation → SliceOutcome → List EditorEvent
-slice_events held traffic ending =
-    console_events (filter_map written_to_console traffic) ++ (line_events (list_any wants_line traffic)
-    ++ outcome_events held ending)
+-- the events of a slice with these port operations and this outcome, which may ask for a line
+abbrev pub slice_events : ExceptionFilters → Bool → List PortOperation → SliceOutcome → List EditorEvent
+slice_events held asks traffic ending =
+    console_events (filter_map written_to_console traffic) ++ (line_events asks ++ outcome_events held ending)
 
 -- ---- the slice
 
--- what a slice of at most n steps is on a board, by the ends at which the run is held
-pub record IsSliceOf (n : ℕ) (held : ExceptionFilters) (b : Board) (s : Slice) (lab : LabState)
-    : Type 0 where
+-- whether the slice of at most n steps asks for a line
+abbrev pub asks_within : Bool → ℕ → Board → Bool
+asks_within has_asked n b =
+    let k = (slice_end_within n b).0 in asks_line has_asked k (traffic_of k b)
+
+-- What a slice of at most n steps is on a board, by the ends at which the run is held, and by whether a line
+-- was asked for.
+pub record IsSliceOf (n : ℕ) (held : ExceptionFilters) (has_asked : Bool) (b : Board) (s : Slice)
+    (lab : LabState) : Type 0 where
   pub executed : s.executed ≡ (slice_end_within n b).0
-  pub messages : s.messages ≡ as_messages
-      (slice_events held (traffic_of (slice_end_within n b).0 b) (slice_end_within n b).1)
+  pub asks : s.asks_line ≡ asks_within has_asked n b
+  pub messages : s.messages ≡ as_messages (slice_events held (asks_within has_asked n b)
+      (traffic_of (slice_end_within n b).0 b) (slice_end_within n b).1)
   pub outcome : s.outcome ≡ (slice_end_within n b).1
   pub represents : RepresentsBoard lab (held_at_end held (slice_end_within n b).1 (after_slice_within n b))

@@ -67,7 +67,9 @@ pub fn is_bounded(asked: &RequestContent) -> bool
 {
     match asked {
         RequestContent::Board(command) => is_command_bounded(command),
-        RequestContent::Editor(EditorCommand::SetFunctionBreakpoints(names)) => names.len()
+        RequestContent::Editor(EditorCommand::SetBreakpoints { lines, .. }) => lines.len()
+            <= MOST_POINTS,
+        RequestContent::Editor(EditorCommand::SetFunctionBreakpoints(functions)) => functions.len()
             <= MOST_POINTS,
         RequestContent::Editor(
             EditorCommand::Disassemble {

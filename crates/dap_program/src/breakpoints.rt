@@ -1,21 +1,39 @@
 //! The breakpoints of a program on its board.
-ghost use Rattle.std.specs.Prelude.{◌≡◌, ◌≤◌, length, IfOk, OnOk, OnErr};
+ghost use Rattle.std.specs.Prelude.{◌≡◌, ◌≤◌, length, map, IfOk, OnOk, OnErr};
 ghost use Rattle.lab_core.specs.Board.{Board};
 ghost use Rattle.lab_core.specs.Labs.{RepresentsBoard};
-ghost use Rattle.dap_program.specs.Breakpoints.{label_line, label_points, labels_behind, board_armed_at};
+ghost use Rattle.dap_program.specs.Breakpoints.{lines_on, label_line, found_label, labels_behind};
+ghost use Rattle.dap_program.specs.Breakpoints.{board_armed_at};
 
 use crate::change::change;
+use crate::code_lines::landings;
 use base_text::sequence::Sequence;
 use base_text::text::Text;
 use dap_editor::message::PlacedBreakpoint;
+use dap_editor::request::{FunctionBreakpoint, LineBreakpoint};
 use dap_inspect::label::line_of_label;
-use dap_points::placed::{label_point, room_behind, wanted_lines};
+use dap_points::board::{room_behind, wanted_lines};
+use dap_points::placed::{FoundLabel, label_points, line_points};
+use dap_points::points::MOST_POINTS;
 use lab_core::event::Event;
 use lab_core::lab::Lab;
 use std::alloc::{AllocError, Global};
 
-/// The most lines of a board's list.
-const MOST_LINES: usize = 256;
+/// The breakpoints on these lines of the program, which is the source with this number.
+pub fn lines_on(
+    alloc: Global,
+    lab: &Lab,
+    number: u32,
+    lines: &[LineBreakpoint],
+) -> Result<Sequence<PlacedBreakpoint>, AllocError>
+    requires number { number ≤ 1025 }
+    requires few { length lines.now ≤ 256 }
+    ensures { (b : Board) → RepresentsBoard lab.now b
+        → IfOk result (λ points. points ≡ lines_on b number lines.now) }
+{
+    let landed = landings(alloc, lab, lines)?;
+    line_points(alloc, number, landed.as_slice())
+}
 
 fn label_line(alloc: Global, lab: &Lab, name: &str) -> Result<Option<u32>, AllocError>
     ensures { (b : Board) → RepresentsBoard lab.now b → IfOk result (λ line. line ≡ label_line b name.now) }
@@ -26,59 +44,68 @@ fn label_line(alloc: Global, lab: &Lab, name: &str) -> Result<Option<u32>, Alloc
     }
 }
 
-fn label_points(
+fn find_label(
     alloc: Global,
     lab: &Lab,
-    room: usize,
-    names: &[Text],
-) -> Result<Sequence<PlacedBreakpoint>, AllocError>
-    requires { length names.now ≤ 256 }
+    function: &FunctionBreakpoint,
+) -> Result<FoundLabel, AllocError>
     ensures { (b : Board) → RepresentsBoard lab.now b
-        → IfOk result (λ points. points ≡ label_points b room 0 names.now) }
+        → IfOk result (λ label. label ≡ found_label b function.now) }
 {
-    let mut points = Sequence::new(alloc);
-    let mut index = 0;
-    let mut left = names;
-    while let Some((name, later)) = left.split_first() {
-        let line = label_line(alloc, lab, name.as_str())?;
-        points.push(label_point(room, index, line))?;
-        index += 1;
-        left = later;
-    }
-    Ok(points)
+    let line = label_line(alloc, lab, function.name.as_str())?;
+    Ok(FoundLabel {
+        line,
+        is_plain: function.is_plain,
+    })
 }
 
-/// The breakpoints at labels, beside those on these lines of the program.
+fn find_labels(
+    alloc: Global,
+    lab: &Lab,
+    functions: &[FunctionBreakpoint],
+) -> Result<Sequence<FoundLabel>, AllocError>
+    ensures found { (b : Board) → RepresentsBoard lab.now b
+        → IfOk result (λ labels. labels ≡ map (found_label b) functions.now) }
+    ensures count { IfOk result (λ labels. length labels ≡ length functions.now) }
+{
+    let mut labels = Sequence::new(alloc);
+    for function in functions {
+        labels.push(find_label(alloc, lab, function)?)?;
+    }
+    Ok(labels)
+}
+
+/// The breakpoints at labels of the program, beside those on lines.
 pub fn labels_behind(
     alloc: Global,
     lab: &Lab,
-    lines: &[u32],
-    names: &[Text],
+    lines: &[PlacedBreakpoint],
+    functions: &[FunctionBreakpoint],
 ) -> Result<Sequence<PlacedBreakpoint>, AllocError>
-    requires { length names.now ≤ 256 }
+    requires { length functions.now ≤ 256 }
     ensures { (b : Board) → RepresentsBoard lab.now b
-        → IfOk result (λ points. points ≡ labels_behind lines.now names.now b) }
+        → IfOk result (λ points. points ≡ labels_behind b lines.now functions.now) }
 {
-    label_points(alloc, lab, room_behind(lines), names)
+    let labels = find_labels(alloc, lab, functions)?;
+    let room = room_behind(alloc, lines)?;
+    label_points(alloc, room, labels.as_slice())
 }
 
-/// Sets breakpoints at these lines of a text and at these labels. If memory runs out the board stays as it
-/// was.
+/// Makes the board stop at these breakpoints on lines of a text, and at these labels. If memory runs out the
+/// board stays as it was.
 pub fn arm(
     alloc: Global,
     lab: &mut Lab,
     path: &Text,
-    lines: &[u32],
-    names: &[Text],
+    lines: &[PlacedBreakpoint],
+    labels: &[PlacedBreakpoint],
 ) -> Result<(), AllocError>
-    requires { length names.now ≤ 256 }
     ensures ok { (b : Board) → RepresentsBoard lab.old b
-        → OnOk result (RepresentsBoard lab.new (board_armed_at path.now lines.now names.now b)) }
+        → OnOk result (RepresentsBoard lab.new (board_armed_at path.now lines.now labels.now b)) }
     ensures err { OnErr result (lab.new ≡ lab.old) }
 {
-    let labels = labels_behind(alloc, lab, lines, names)?;
-    let mut lines = wanted_lines(alloc, lines, labels.as_slice())?;
-    lines.truncate(MOST_LINES);
+    let mut lines = wanted_lines(alloc, lines, labels)?;
+    lines.truncate(MOST_POINTS);
     let path = path.clone()?;
     change(lab, Event::SetBreakpoints { path, lines })
 }

@@ -8,8 +8,10 @@
 pub mod bounds;
 pub mod breakpoints;
 pub mod change;
+pub mod code_lines;
 pub mod end;
 pub mod failure;
+pub mod laws;
 pub mod load;
 pub mod memory;
 pub mod messages;

@@ -26,36 +26,15 @@ fn push_message(messages: &mut Sequence<Message>, event: EditorEvent) -> Result<
     messages.push(Message::Event(event))
 }
 
-// Adds an event if the breakpoint is verified.
+// Adds an event for each breakpoint.
 fn push_changed(
     messages: &mut Sequence<Message>,
-    point: &PlacedBreakpoint,
+    points: Sequence<PlacedBreakpoint>,
 ) -> Result<(), AllocError>
-    ensures { OnOk result (messages.new ≡ messages.old ++ as_messages (changed_events (point.now ∷ []))) }
+    ensures { OnOk result (messages.new ≡ messages.old ++ as_messages (changed_events points)) }
 {
-    if !point.is_verified {
-        return Ok(());
-    }
-    push_message(
-        messages,
-        EditorEvent::Breakpoint(PlacedBreakpoint {
-            id: point.id,
-            line: point.line,
-            is_verified: point.is_verified,
-        }),
-    )
-}
-
-fn push_all_changed(
-    messages: &mut Sequence<Message>,
-    points: &[PlacedBreakpoint],
-) -> Result<(), AllocError>
-    ensures { OnOk result (messages.new ≡ messages.old ++ as_messages (changed_events points.now)) }
-{
-    let mut left = points;
-    while let Some((point, later)) = left.split_first() {
-        push_changed(messages, point)?;
-        left = later;
+    for point in points.into_vec() {
+        push_message(messages, EditorEvent::Breakpoint(point))?;
     }
     Ok(())
 }
@@ -122,24 +101,22 @@ fn accepted(caller: RequestId) -> Message
 }
 
 /// The messages about a launch or a restart: the response, `initialized` after a launch, which asks for the
-/// configuration, then the breakpoints that are verified now, and what follows.
+/// configuration, then the breakpoints that aren't what they were, and what follows.
 pub fn opening_messages(
     alloc: Global,
     caller: RequestId,
     cause: LoadReason,
-    lines: &[PlacedBreakpoint],
-    labels: &[PlacedBreakpoint],
+    changed: Sequence<PlacedBreakpoint>,
     follow: FollowUp,
 ) -> Result<Sequence<Message>, AllocError>
     ensures { IfOk result (λ messages. messages
         ≡ turn_messages caller accepted_outcome
-        (opening_events cause lines.now labels.now follow)) }
+        (opening_events cause changed follow)) }
 {
     let mut messages = Sequence::new(alloc);
     messages.push(accepted(caller))?;
     push_first(&mut messages, cause)?;
-    push_all_changed(&mut messages, lines)?;
-    push_all_changed(&mut messages, labels)?;
+    push_changed(&mut messages, changed)?;
     push_follow(&mut messages, follow)?;
     Ok(messages)
 }

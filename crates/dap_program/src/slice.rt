@@ -1,6 +1,7 @@
 //! Slices of a run.
 ghost use Rattle.std.specs.Prelude.{◌≡◌, ◌<◌, ◌≤◌, ◌+◌, ◌++◌, length, IfOk, OnErr, vec_capacity};
 ghost use Rattle.std.specs.Prelude.{vec_len, codes};
+ghost use Rattle.std.specs.List.{list_all};
 ghost use Rattle.base_text.specs.Hexadecimal.{upper_digit, upper_byte};
 ghost use Rattle.lab_core.specs.declared.run_state.RunState.TheVariants.{Running};
 ghost use Rattle.lab_core.specs.Board.{Board};
@@ -10,7 +11,8 @@ ghost use Rattle.dap_program.specs.Messages.{as_messages};
 ghost use Rattle.dap_program.specs.Slices as slices;
 ghost use Rattle.dap_program.specs.Slices.{console_events, line_question, line_events, run_end_events};
 ghost use Rattle.dap_program.specs.Slices.{undefined_line, exception_events, policy_events};
-ghost use Rattle.dap_program.specs.Slices.{outcome_events, slice_events, IsSliceOf};
+ghost use Rattle.dap_program.specs.Slices.{outcome_events, slice_events, IsSliceOf, is_vain_read};
+ghost use Rattle.dap_program.specs.Slices.{polls_in_vain, asks_line};
 ghost use Rattle.dap_program.specs.Kits.{IsSliceKit};
 
 use crate::end::{EndPolicy, exit_code, hold_at_end, policy_at, stop_at};
@@ -27,11 +29,13 @@ use lab_core::lab::Lab;
 use lab_core::run_slice::STEPS;
 use std::alloc::{AllocError, Global};
 
-/// The messages about a slice, how many steps it made, and how it ended.
+/// The messages about a slice, how many steps it made, whether the program asked for a line, and how the
+/// slice ended.
 #[derive(Drop)]
 pub struct Slice {
     pub messages: Sequence<Message>,
     pub executed: u16,
+    pub asks_line: bool,
     pub outcome: SliceOutcome,
 }
 
@@ -86,6 +90,35 @@ fn output(category: OutputCategory, bytes: Bytes) -> EditorEvent
         bytes,
         place: None,
     }
+}
+
+fn is_vain_read(operation: &PortOperation) -> bool
+    ensures { result ≡ is_vain_read operation.now }
+{
+    matches!(
+        operation,
+        PortOperation::In { port: 0, byte: 2 } | PortOperation::In { port: 1, byte: 0 }
+    )
+}
+
+fn are_vain_reads(traffic: &[PortOperation]) -> bool
+    ensures { result ≡ list_all is_vain_read traffic.now }
+{
+    traffic.iter().all(is_vain_read)
+}
+
+// Whether a slice of so many steps only polls the console, in vain.
+fn polls_in_vain(executed: u16, traffic: &[PortOperation]) -> bool
+    ensures { result ≡ polls_in_vain executed traffic.now }
+{
+    executed == STEPS && !traffic.is_empty() && are_vain_reads(traffic)
+}
+
+// Whether a slice asks for a line, if one was asked for or not since the last one was typed.
+fn asks_line(has_asked: bool, executed: u16, traffic: &[PortOperation]) -> bool
+    ensures { result ≡ asks_line has_asked executed traffic.now }
+{
+    is_line_requested(traffic) || (!has_asked && polls_in_vain(executed, traffic))
 }
 
 fn push_console(messages: &mut Messages, console: Vec<u8>)
@@ -217,16 +250,17 @@ fn push_outcome(
 }
 
 impl SliceKit {
-    // The messages about a slice with these port operations and this outcome.
+    // The messages about a slice with these port operations and this outcome, which may ask for a line.
     fn tell(
         self,
         held: ExceptionFilters,
+        asks: bool,
         traffic: &[PortOperation],
         outcome: SliceOutcome,
     ) -> Sequence<Message>
         requires kit { IsSliceKit self }
         requires few { length traffic.now ≤ 4096 }
-        ensures { result ≡ as_messages (slice_events held traffic.now outcome) }
+        ensures { result ≡ as_messages (slice_events held asks traffic.now outcome) }
     {
         let SliceKit {
             mut messages,
@@ -236,7 +270,7 @@ impl SliceKit {
         } = self;
         let console = print_all(console, traffic);
         push_console(&mut messages, console);
-        push_line(&mut messages, question, is_line_requested(traffic));
+        push_line(&mut messages, question, asks);
         push_outcome(&mut messages, opcode, held, outcome);
         messages.into_sequence()
     }
@@ -245,17 +279,18 @@ impl SliceKit {
 // ---- the slice
 
 /// Makes at most `limit` steps of the run on a board, from 1 to 4,096, and returns the messages about them.
-/// `held` says at which ends the run is held. If no run goes on, it fails like out of memory. If it fails,
-/// the board stays as it was.
+/// `held` says at which ends the run is held, `has_asked` whether the program asked for a line since the last
+/// one was typed. If no run goes on, it fails like out of memory. If it fails, the board stays as it was.
 pub fn make_slice(
     alloc: Global,
     lab: &mut Lab,
     limit: u16,
     held: ExceptionFilters,
+    has_asked: bool,
 ) -> Result<Slice, AllocError>
     requires { (1 ≤ limit) × (limit ≤ 4096) × RepresentsSomeBoard lab.old }
     ensures made { (b : Board) → RepresentsBoard lab.old b → b.run ≡ Running
-        → IfOk result (λ slice. IsSliceOf limit held b slice lab.new) }
+        → IfOk result (λ slice. IsSliceOf limit held has_asked b slice lab.new) }
     ensures err { OnErr result (lab.new ≡ lab.old) }
 {
     let kit = slice_kit(alloc)?;
@@ -267,11 +302,13 @@ pub fn make_slice(
                 outcome,
             },
         ) => {
-            let messages = kit.tell(held, traffic.as_slice(), outcome);
+            let asks_line = asks_line(has_asked, executed, traffic.as_slice());
+            let messages = kit.tell(held, asks_line, traffic.as_slice(), outcome);
             hold_at_end(lab, held, outcome);
             Ok(Slice {
                 messages,
                 executed,
+                asks_line,
                 outcome,
             })
         }

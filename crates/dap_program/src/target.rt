@@ -9,7 +9,7 @@ use lab_core::lab::Lab;
 use lab_image::origin::Origin;
 
 /// The number of addresses.
-const ADDRESSES: u32 = 65_536;
+pub(crate) const ADDRESSES: u32 = 65_536;
 
 fn target_of(origin: Origin, line: u32, address: u16) -> Option<GotoTarget>
     ensures { result ≡ targets.target_of line address origin }
@@ -25,7 +25,7 @@ fn target_of(origin: Origin, line: u32, address: u16) -> Option<GotoTarget>
     }
 }
 
-fn target_at(lab: &Lab, line: u32, address: u16) -> Option<GotoTarget>
+pub(crate) fn target_at(lab: &Lab, line: u32, address: u16) -> Option<GotoTarget>
     ensures { (b : Board) → RepresentsBoard lab.now b → result ≡ targets.target_at b line address }
 {
     target_of(lab.origin_at(address)?, line, address)

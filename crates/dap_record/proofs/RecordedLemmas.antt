@@ -1,6 +1,6 @@
 -- Requests to recorded sessions, and the states that they represent.
-use Rattle.std.proofs.Common.{◌≡◌, List, Bool, true, false, Option, Some, None, Result, Ok, Err, refl, ap}
-use Rattle.std.proofs.Common.{sym, subst, is_some, true≢false, IfOk}
+use Rattle.std.proofs.Common.{◌≡◌, ◌∙◌, List, Bool, true, false, Option, Some, None, Result, Ok, Err, refl}
+use Rattle.std.proofs.Common.{ap, sym, subst, is_some, true≢false, IfOk}
 use Rattle.std.specs.declared.alloc.AllocError.{AllocError}
 use Rattle.base_text.specs.Bytes.{Text}
 use Rattle.lab_shown.specs.declared.shown.Shown.{Shown}
@@ -26,7 +26,8 @@ use Rattle.dap_launch.specs.declared.file.FileText.{FileText}
 use Rattle.dap_launch.specs.Lives.{exception_of}
 use Rattle.dap_program.specs.declared.messages.FollowUp.TheVariants.{Nothing}
 use Rattle.dap_program.specs.declared.messages.RequestId.{RequestId}
-use Rattle.dap_session.specs.States.{SessionState, with_waits}
+use Rattle.dap_inputs.specs.Inputs.{ends_question}
+use Rattle.dap_session.specs.States.{SessionState, with_waits, after_answer}
 use Rattle.dap_session.specs.Evaluations.{value_told}
 use Rattle.dap_session.specs.Requests as session
 use Rattle.dap_session.specs.Requests.{board_done, explaining, commanding, asking, asking_unless, objection}
@@ -90,6 +91,8 @@ left_command other s is = absurd cc
 left_editing : (c : EditorCommand) (found : Option FileText) (s : SessionState) → mid_search_editing c ≡
     mid.Look
     → (asking (asked.Editor c) found s).state ≡ s
+left_editing (editor.Evaluate expression context.Watch) found s is = left_told (expression_text s.board
+    expression) s
 left_editing (editor.Evaluate expression context.Other) found s is = left_told (expression_text s.board
     expression) s
 left_editing editor.ExceptionInfo found s is = left_explained (exception_of s.settings.program) s
@@ -97,6 +100,7 @@ left_editing (editor.ReadMemory address offset count) found s is = refl
 left_editing (editor.Disassemble address offset instruction_offset count) found s is = refl
 left_editing editor.LoadedSources found s is = refl
 left_editing (editor.GotoTargets path line) found s is = refl
+left_editing (editor.BreakpointLocations path first last) found s is = refl
 left_editing other found s is = absurd cc
 
 left_asking : (a : RequestContent) (found : Option FileText) (s : SessionState) → mid_search a ≡ mid.Look
@@ -110,11 +114,41 @@ left_unless : (o : Option Text) (a : RequestContent) (found : Option FileText) (
 left_unless (Some text) a found s is = refl
 left_unless None a found s is = left_asking a found s is
 
+-- no look ends a question
+command_ends_none : (c : DapCommand) → mid_search_command c ≡ mid.Look
+    → ends_question (asked.Board c) ≡ false
+command_ends_none command.Threads is = refl
+command_ends_none (command.StackTrace start levels) is = refl
+command_ends_none (command.Scopes frame) is = refl
+command_ends_none (command.Variables reference start count) is = refl
+command_ends_none (command.Disassemble address offset instruction_offset count) is = refl
+command_ends_none (command.Source path) is = refl
+command_ends_none other is = absurd cc
+
+editing_ends_none : (c : EditorCommand) → mid_search_editing c ≡ mid.Look
+    → ends_question (asked.Editor c) ≡ false
+editing_ends_none (editor.Evaluate expression context.Watch) is = refl
+editing_ends_none (editor.Evaluate expression context.Other) is = refl
+editing_ends_none editor.ExceptionInfo is = refl
+editing_ends_none (editor.ReadMemory address offset count) is = refl
+editing_ends_none (editor.Disassemble address offset instruction_offset count) is = refl
+editing_ends_none editor.LoadedSources is = refl
+editing_ends_none (editor.GotoTargets path line) is = refl
+editing_ends_none (editor.BreakpointLocations path first last) is = refl
+editing_ends_none other is = absurd cc
+
+look_ends_none : (a : RequestContent) → mid_search a ≡ mid.Look → ends_question a ≡ false
+look_ends_none (asked.Board c) is = command_ends_none c is
+look_ends_none (asked.Editor c) is = editing_ends_none c is
+look_ends_none (asked.Faulty fault) is = refl
+
 -- a look leaves the board and the program
 pub look_leaves : (a : RequestContent) (found : Option FileText) (s : SessionState) → mid_search a ≡ mid.Look
     → (session.turn a found s).state ≡ with_waits false s
 unfolding session.turn
-look_leaves a found s is = ap (with_waits false) (left_unless (objection a s) a found s is)
+look_leaves a found s is =
+    ap (after_answer (ends_question a)) (left_unless (objection a s) a found s is)
+    ∙ ap (λ ends. after_answer ends s) (look_ends_none a is)
 
 recording_waits : (o : Option RecordingFields) (m : Option Recording) (s : SessionState)
     → RepresentsRecordingIf o m s → RepresentsRecordingIf o m (with_waits false s)

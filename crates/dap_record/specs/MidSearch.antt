@@ -23,12 +23,14 @@ mid_search_command command.Disconnect = mid.End
 mid_search_command other = mid.Other
 
 abbrev pub mid_search_editing : EditorCommand → MidSearch
+mid_search_editing (editor.Evaluate expression context.Watch) = mid.Look
 mid_search_editing (editor.Evaluate expression context.Other) = mid.Look
 mid_search_editing editor.ExceptionInfo = mid.Look
 mid_search_editing (editor.ReadMemory address offset count) = mid.Look
 mid_search_editing (editor.Disassemble address offset instruction_offset count) = mid.Look
 mid_search_editing editor.LoadedSources = mid.Look
 mid_search_editing (editor.GotoTargets path line) = mid.Look
+mid_search_editing (editor.BreakpointLocations path first last) = mid.Look
 mid_search_editing editor.Terminate = mid.End
 mid_search_editing other = mid.Other
 

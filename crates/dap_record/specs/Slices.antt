@@ -9,6 +9,7 @@ use Rattle.dap_editor.specs.declared.message.EditorEvent.TheVariants as event
 use Rattle.dap_editor.specs.declared.message.Message.{Message}
 use Rattle.dap_editor.specs.declared.message.Message.TheVariants as message
 use Rattle.dap_editor.specs.declared.request.EditorRequest.{EditorRequest}
+use Rattle.dap_editor.specs.declared.request.RequestContent.{RequestContent}
 use Rattle.dap_history.specs.declared.input.Recorded.{Recorded}
 use Rattle.dap_history.specs.declared.goal.Goal.{Goal}
 use Rattle.dap_history.specs.Logs.{up_to}
@@ -17,7 +18,8 @@ use Rattle.dap_launch.specs.declared.file.FileText.{FileText}
 use Rattle.dap_program.specs.declared.messages.RequestId.{RequestId}
 use Rattle.dap_program.specs.declared.messages.FollowUp.TheVariants.{Stopped}
 use Rattle.dap_program.specs.Messages.{turn_messages, as_messages, events_of}
-use Rattle.dap_session.specs.States.{SessionState, with_board, wants_slice}
+use Rattle.dap_inputs.specs.Inputs.{as_meant}
+use Rattle.dap_session.specs.States.{SessionState, with_board, wants_slice, has_watch_commands}
 use Rattle.dap_session.specs.Rewinds.{rewound}
 use Rattle.dap_session.specs.Slices as session
 use Rattle.dap_session.specs.Slices.{slicing, caller_of}
@@ -132,8 +134,12 @@ goes_on v = is_some v.search || wants_slice v.session
 abbrev pub told_in : RequestId → RecordedTurn → RecordedTold
 told_in c t = record { messages = turn_messages c t.outcome t.events; state = t.state }
 
+-- what a request asks for, where a watch may be a line of the prompt
+abbrev pub meant_by : EditorRequest → RecordedState → RequestContent
+meant_by r v = as_meant (has_watch_commands v.session.settings.program) r.asked
+
 abbrev pub request_told : EditorRequest → Option FileText → RecordedState → RecordedTold
-request_told r found v = told_in (caller_of r) (turn r.asked found v)
+request_told r found v = told_in (caller_of r) (turn (meant_by r v) found v)
 
 -- ---- a session
 

@@ -40,13 +40,14 @@ fn mid_search_editing(command: &EditorCommand) -> MidSearch
     match command {
         EditorCommand::Evaluate {
             expression: _,
-            context: EvaluateContext::Other,
+            context: EvaluateContext::Watch | EvaluateContext::Other,
         }
         | EditorCommand::ExceptionInfo
         | EditorCommand::ReadMemory { .. }
         | EditorCommand::Disassemble { .. }
         | EditorCommand::LoadedSources
-        | EditorCommand::GotoTargets { .. } => MidSearch::Look,
+        | EditorCommand::GotoTargets { .. }
+        | EditorCommand::BreakpointLocations { .. } => MidSearch::Look,
         EditorCommand::Terminate => MidSearch::End,
         _ => MidSearch::Other,
     }

@@ -5,9 +5,9 @@ ghost use Rattle.dap_session.specs.Slices.{caller_of};
 ghost use Rattle.dap_record.specs.Recordings.{RecordedState, recorded_before_requests};
 ghost use Rattle.dap_record.specs.Backward.{going_back, going_back_from};
 ghost use Rattle.dap_record.specs.MidSearch.{mid_search};
-ghost use Rattle.dap_record.specs.Turns.{turn_of, recorded_turn, back_in, turn_by, turn_searching, looking};
-ghost use Rattle.dap_record.specs.Turns.{pausing, refusing_now};
-ghost use Rattle.dap_record.specs.Slices.{request_told, run_told, goes_on, told_in};
+ghost use Rattle.dap_record.specs.Turns.{turn, turn_of, recorded_turn, back_in, turn_by, turn_searching};
+ghost use Rattle.dap_record.specs.Turns.{looking, pausing, refusing_now};
+ghost use Rattle.dap_record.specs.Slices.{request_told, run_told, goes_on, told_in, meant_by};
 ghost use Rattle.dap_record.specs.Represents.{RepresentsRecorded, TellsAs, TellsSlice, RepliesAs};
 ghost use Rattle.dap_record.specs.Represents.{RepliesFrom, IsRecorded, RepresentsSome, IsSearched, TellsPart};
 ghost use Rattle.dap_record.specs.Noting.{IsBefore};
@@ -24,7 +24,7 @@ use base_text::sequence::Sequence;
 use dap_answers::answer::StopReason;
 use dap_editor::message::{EditorStop, Message};
 use dap_editor::request::EditorRequest;
-use dap_inputs::inputs::input_of;
+use dap_inputs::inputs::{as_meant, input_of};
 use dap_launch::file::FileText;
 use dap_launch::reply::{Reply, accept, refuse};
 use dap_program::messages::{FollowUp, Messages, RequestId};
@@ -103,6 +103,36 @@ impl RecordedSession {
         file: Option<FileText>,
     ) -> Result<Sequence<Message>, AllocError>
         ensures { TellsAs (request_told request file) self.old result self.new }
+    {
+        let request = self.meant(request);
+        self.take_meant(alloc, request, file)
+    }
+
+    // The request that is meant, since a watch may be a line of the prompt.
+    fn meant(&self, request: EditorRequest) -> EditorRequest
+        ensures { (v : RecordedState) → RepresentsRecorded self.now v
+            → result ≡ record request { asked = meant_by request v } }
+    {
+        let EditorRequest {
+            seq,
+            command,
+            asked,
+        } = request;
+        EditorRequest {
+            seq,
+            command,
+            asked: as_meant(asked, self.session.has_watch_commands()),
+        }
+    }
+
+    fn take_meant(
+        &mut self,
+        alloc: Global,
+        request: EditorRequest,
+        file: Option<FileText>,
+    ) -> Result<Sequence<Message>, AllocError>
+        ensures { TellsAs (λ v. told_in (caller_of request) (turn request.asked file v)) self.old result
+            self.new }
     {
         if self.search.is_some() {
             self.take_searching(alloc, request, file)

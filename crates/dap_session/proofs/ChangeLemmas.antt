@@ -39,6 +39,9 @@ use Rattle.dap_editor.specs.declared.message.EditorEvent.TheVariants as told
 use Rattle.dap_editor.specs.declared.message.UndefinedOpcode.{UndefinedOpcode}
 use Rattle.dap_editor.specs.declared.request.EditorCommand.{EditorCommand}
 use Rattle.dap_editor.specs.declared.request.EditorCommand.TheVariants as editor
+use Rattle.dap_editor.specs.declared.message.PlacedBreakpoint.{PlacedBreakpoint}
+use Rattle.dap_editor.specs.declared.request.LineBreakpoint.{LineBreakpoint}
+use Rattle.dap_editor.specs.declared.request.FunctionBreakpoint.{FunctionBreakpoint}
 use Rattle.dap_editor.specs.declared.request.EvaluateContext.{EvaluateContext}
 use Rattle.dap_editor.specs.declared.request.EvaluateContext.TheVariants as context
 use Rattle.dap_editor.specs.declared.request.RequestContent.{RequestContent}
@@ -46,11 +49,11 @@ use Rattle.dap_editor.specs.declared.request.RequestContent.TheVariants as asked
 use Rattle.dap_editor.specs.declared.request.SignedOffset.{SignedOffset}
 use Rattle.dap_inspect.specs.declared.fault.EvaluateFault.{EvaluateFault}
 use Rattle.dap_inspect.specs.Expressions.{expression_text}
-use Rattle.dap_points.specs.Points.{WantedBreakpointsState, has_place}
+use Rattle.dap_points.specs.Points.{WantedBreakpointsState, has_place, number_of, lines_at}
 use Rattle.dap_program.specs.declared.messages.FollowUp.{FollowUp}
 use Rattle.dap_program.specs.declared.messages.FollowUp.TheVariants as follow
 use Rattle.dap_program.specs.Boards.{board_after}
-use Rattle.dap_program.specs.Breakpoints.{board_armed_at}
+use Rattle.dap_program.specs.Breakpoints.{board_armed_at, lines_on, labels_behind}
 use Rattle.dap_program.specs.Ends.{exit_code}
 use Rattle.dap_program.specs.Memory.{address_at}
 use Rattle.dap_program.specs.Messages.{event_if, events_of}
@@ -108,21 +111,27 @@ kept_dump path text b =
     kept_step (or_source (place_of (record { path = path; text = text }) b.sources)) b _
     (λ place. record { machine = refl; past = refl; trace = refl })
 
-kept_armed : (path : Text) (lines : List ℕ) (names : List Text) (b : Board)
-    → SameParts b (board_armed_at path lines names b)
-kept_armed path lines names b =
+kept_armed : (path : Text) (lines labels : List PlacedBreakpoint) (b : Board)
+    → SameParts b (board_armed_at path lines labels b)
+kept_armed path lines labels b =
     kept_after b _ (kept_source (source_at b.sources path) b _
     (λ n text. record { machine = refl; past = refl; trace = refl }))
 
-pub kept_where : (o : Option Program) (lines : List ℕ) (names : List Text) (b : Board)
-    → SameParts b (armed_where o lines names b)
-kept_where None lines names b = same b
-kept_where (Some p) lines names b = kept_armed p.launch.program lines names b
+pub kept_where : (o : Option Program) (number : ℕ) (lines : List LineBreakpoint)
+    (functions : List FunctionBreakpoint) (b : Board)
+    → SameParts b (armed_where o number lines functions b)
+kept_where None number lines functions b = same b
+kept_where (Some p) number lines functions b =
+    kept_armed p.launch.program (lines_on b number lines)
+    (labels_behind b (lines_on b number lines) functions) b
 
-pub kept_labels : (o : Option Program) (names : List Text) (points : WantedBreakpointsState) (b : Board)
-    → SameParts b (labels_armed o names points b)
-kept_labels None names points b = same b
-kept_labels (Some p) names points b = kept_armed p.launch.program _ names b
+pub kept_labels : (o : Option Program) (functions : List FunctionBreakpoint)
+    (points : WantedBreakpointsState) (b : Board)
+    → SameParts b (labels_armed o functions points b)
+kept_labels None functions points b = same b
+kept_labels (Some p) functions points b =
+    let path = p.launch.program in
+    kept_where (Some p) (number_of path points.lists) (lines_at path points.lists) functions b
 
 pub kept_pause : (a : Bool) (r : RunState) (b : Board)
     → KeepsParts b (while_attached a (while_running r (Ok (answer.Accepted, board_stopped b))))
@@ -241,9 +250,7 @@ command_told command.Initialize s =
 command_told command.Attach s = λ w. inl (same s.board)
 command_told command.Disconnect s = λ w. inl (same s.board)
 command_told command.ConfigurationDone s = begun_where s.settings.program s refl
-command_told (command.SetBreakpoints path lines) s =
-    either (has_place path s.settings.points.lists) s _ _
-    (λ w. inl (kept_where (program_at path s.settings.program) lines _ s.board)) (λ w. inl (same s.board))
+command_told (command.SetBreakpoints path lines) s = λ w. inl (same s.board)
 command_told command.BoardReset s = reset_over s
 command_told command.Threads s = λ w. inl (same s.board)
 command_told (command.StackTrace start levels) s = shown (view.Frames start levels) s
@@ -301,6 +308,7 @@ evaluated : (expression : Text) (c : EvaluateContext) (s : SessionState) → Tel
 evaluated expression context.Repl s =
     prompt_told (behind (codes "switches ") expression) (behind (codes "press ") expression)
     (behind (codes "type ") expression) expression s
+evaluated expression context.Watch s = value_kept (expression_text s.board expression) s
 evaluated expression context.Other s = value_kept (expression_text s.board expression) s
 
 -- ---- commands of editors
@@ -326,8 +334,11 @@ edit_told : (c : EditorCommand) (s : SessionState) → Tells s (editing c s)
 edit_told (editor.Initialize supported) s =
     either s.settings.is_initialized s _ _ (λ w. inl (same s.board)) (λ w. inl (same s.board))
 edit_told editor.Terminate s = λ w. absurd (dead_over s.settings.program w.live w.program)
-edit_told (editor.SetFunctionBreakpoints names) s =
-    λ w. inl (kept_labels s.settings.program names s.settings.points s.board)
+edit_told (editor.SetBreakpoints path lines) s =
+    either (has_place path s.settings.points.lists) s _ _
+    (λ w. inl (kept_where (program_at path s.settings.program) _ _ _ s.board)) (λ w. inl (same s.board))
+edit_told (editor.SetFunctionBreakpoints functions) s =
+    λ w. inl (kept_labels s.settings.program functions s.settings.points s.board)
 edit_told editor.ExceptionInfo s = explained (exception_of s.settings.program) s
 edit_told (editor.Evaluate expression c) s = evaluated expression c s
 edit_told (editor.WriteMemory address offset bytes) s = written address offset bytes s
@@ -387,6 +398,8 @@ quiet_command other s is = absurd is
 quiet_asking : (a : RequestContent) (found : Option FileText) (s : SessionState) → IsLook a
     → (asking a found s).events ≡ []
 quiet_asking (asked.Board c) found s is = quiet_command c s is
+quiet_asking (asked.Editor (editor.Evaluate expression context.Watch)) found s is =
+    quiet_value (expression_text s.board expression) s
 quiet_asking (asked.Editor (editor.Evaluate expression context.Other)) found s is =
     quiet_value (expression_text s.board expression) s
 quiet_asking (asked.Editor editor.ExceptionInfo) found s is =
@@ -395,6 +408,7 @@ quiet_asking (asked.Editor (editor.ReadMemory address offset count)) found s is 
 quiet_asking (asked.Editor (editor.Disassemble address offset instruction_offset count)) found s is = refl
 quiet_asking (asked.Editor editor.LoadedSources) found s is = refl
 quiet_asking (asked.Editor (editor.GotoTargets path line)) found s is = refl
+quiet_asking (asked.Editor (editor.BreakpointLocations path first last)) found s is = refl
 quiet_asking other found s is = absurd is
 
 quiet_unless : (o : Option Text) (a : RequestContent) (found : Option FileText) (s : SessionState) → IsLook a

@@ -2,8 +2,7 @@
 use Rattle.std.proofs.Common.{◌≡◌, ◌∙◌, ℕ, List, ◌++◌, Bool, true, false, not, ◌||◌, Option, Some}
 use Rattle.std.proofs.Common.{None, true≢false, codes, if◌then◌else◌, option_map, refl, sym, ap}
 use Rattle.std.proofs.Common.{subst, append_assoc, filter_map}
-use Rattle.std.specs.List.{list_any}
-use Rattle.i80_devs.specs.Console.{written_to_console, wants_line}
+use Rattle.i80_devs.specs.Console.{written_to_console}
 use Rattle.lab_core.specs.declared.answer.End.{End}
 use Rattle.lab_core.specs.declared.answer.SliceOutcome.{SliceOutcome}
 use Rattle.lab_core.specs.declared.answer.SliceOutcome.TheVariants as outcome
@@ -21,6 +20,7 @@ use Rattle.dap_program.specs.declared.messages.FollowUp.TheVariants as follow
 use Rattle.dap_program.specs.Ends.{exit_code, policy_at, left_at_end}
 use Rattle.dap_program.specs.Messages.{as_messages, end_events, events_of}
 use Rattle.dap_program.specs.Slices.{console_events, line_events, exception_events, policy_events}
+use Rattle.dap_program.specs.Slices.{asks_line}
 use Rattle.dap_program.proofs.SliceLemmas.{told-append}
 use Rattle.dap_launch.specs.declared.program.Program.{Program}
 use Rattle.dap_launch.specs.Lives.{held_for, policy_of, ended_phase, ended_program, end_in, end_of}
@@ -83,7 +83,7 @@ ended_by k how s initialized =
     let policy = policy_of s.settings.filters s.settings.program how in
     let b = left_by (outcome.End how) (after_steps k s.board) in
     let console = console_events (filter_map written_to_console (traffic_of k s.board)) in
-    let line = line_events (list_any wants_line (traffic_of k s.board)) in
+    let line = line_events (asks_line s.settings.has_asked k (traffic_of k s.board)) in
     record {
       parts = same_left policy b;
       before = as_messages (console ++ (line ++ exception_events how));

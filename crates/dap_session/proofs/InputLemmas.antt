@@ -214,9 +214,7 @@ command_made command.Initialize s =
 command_made command.Attach s = λ l. same s.board
 command_made command.Disconnect s = λ l. same s.board
 command_made command.ConfigurationDone s = configured_made s.settings.program s refl
-command_made (command.SetBreakpoints path lines) s =
-    either (has_place path s.settings.points.lists) None s _ _
-    (λ l. kept_where (program_at path s.settings.program) lines _ s.board) (λ l. same s.board)
+command_made (command.SetBreakpoints path lines) s = λ l. same s.board
 command_made command.BoardReset s = reset_made s
 command_made command.Threads s = λ l. same s.board
 command_made (command.StackTrace start levels) s = shown_made (view.Frames start levels) s
@@ -291,6 +289,7 @@ evaluated_made : (expression : Text) (c : EvaluateContext) (s : SessionState)
 evaluated_made expression context.Repl s =
     prompt_made (behind (codes "switches ") expression) (behind (codes "press ") expression)
     (behind (codes "type ") expression) expression s
+evaluated_made expression context.Watch s = value_made (expression_text s.board expression) s
 evaluated_made expression context.Other s = value_made (expression_text s.board expression) s
 
 -- ---- commands of editors
@@ -333,8 +332,12 @@ edit_made (editor.Initialize supported) s =
     either s.settings.is_initialized None s _ _ (λ l. same s.board) (λ l. same s.board)
 edit_made editor.Terminate s =
     λ l. absurd (over_lasts s.settings.program (begun_before (terminating s).state l.after))
-edit_made (editor.SetFunctionBreakpoints names) s =
-    λ l. kept_labels s.settings.program names s.settings.points s.board
+edit_made (editor.SetBreakpoints path lines) s =
+    either (has_place path s.settings.points.lists) None s _ _
+    (λ l. kept_where (program_at path s.settings.program) _ _ _ s.board) (λ l. same s.board)
+edit_made (editor.SetFunctionBreakpoints functions) s =
+    λ l. kept_labels s.settings.program functions s.settings.points s.board
+edit_made (editor.BreakpointLocations path first last) s = λ l. same s.board
 edit_made editor.ExceptionInfo s = explained_made (exception_of s.settings.program) s
 edit_made (editor.Evaluate expression c) s = evaluated_made expression c s
 edit_made (editor.SetExceptionBreakpoints filters) s = λ l. same s.board

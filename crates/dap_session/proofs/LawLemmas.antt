@@ -39,7 +39,7 @@ use Rattle.dap_program.specs.Messages.{as_messages, event_if, events_of}
 use Rattle.lab_core.specs.SliceEnds.{slice_end}
 use Rattle.i80_devs.specs.Console.{written_to_console}
 use Rattle.dap_program.specs.Slices.{slice_events, console_events, line_events, outcome_events}
-use Rattle.dap_program.specs.Slices.{run_end_events}
+use Rattle.dap_program.specs.Slices.{run_end_events, asks_line}
 use Rattle.dap_program.proofs.SliceLemmas.{told-append}
 use Rattle.dap_launch.specs.declared.file.FileText.{FileText}
 use Rattle.dap_launch.specs.declared.program.Program.{Program}
@@ -51,7 +51,8 @@ use Rattle.dap_launch.specs.Files.{text_in}
 use Rattle.dap_launch.specs.Lives.{held_ends}
 use Rattle.dap_program.specs.Ends.{policy_at}
 use Rattle.dap_editor.specs.declared.request.ExceptionFilters.{ExceptionFilters}
-use Rattle.dap_launch.specs.Programs.{program_of, program_lines, program_labels}
+use Rattle.dap_launch.specs.Programs.{program_of}
+use Rattle.dap_launch.specs.Points.{all_changed}
 use Rattle.dap_session.specs.Launches.{started_follow, by_text, loading, loading_as, launching_over}
 use Rattle.dap_session.specs.Launches.{restarting_of}
 use Rattle.dap_session.specs.Requests.{objection, asking, asking_unless, replying, turn}
@@ -68,7 +69,8 @@ callers_answered-told (e ∷ es) = callers_answered-told es
 pub answered_slicing : (p : ℕ × SliceOutcome) (s : SessionState) → callers_answered (slicing p
     s).messages ≡ []
 answered_slicing (k, ending) s = callers_answered-told
-    (slice_events (held_ends s.settings.filters s.settings.program) (traffic_of k s.board) ending)
+    (slice_events (held_ends s.settings.filters s.settings.program)
+    (asks_line s.settings.has_asked k (traffic_of k s.board)) (traffic_of k s.board) ending)
 
 pub answered_sliced : (s : SessionState) → callers_answered (slice_told s).messages ≡ []
 unfolding slice_told
@@ -127,22 +129,17 @@ silent_follow (follow.Ended code) = refl
 
 silent_changed : (points : List PlacedBreakpoint) → IsSilent (changed_events points)
 silent_changed [] = refl
-silent_changed (p ∷ points) = elim (cases_Bool p.is_verified) [
-  | inl so ↦ rw so (silent_changed points)
-  | inr other ↦ rw other (silent_changed points)
-]
+silent_changed (p ∷ points) = silent_changed points
 
 silent_first : (o : LoadReason) → IsSilent (first_events o)
 silent_first Launch = refl
 silent_first Restart = refl
 
-silent_opening : (o : LoadReason) (lines labels : List PlacedBreakpoint) (f : FollowUp)
-    → IsSilent (opening_events o lines labels f)
-silent_opening o lines labels f =
-    silent-append (first_events o) (changed_events lines ++ (changed_events labels ++ events_of f))
-    (silent_first o)
-    (silent-append (changed_events lines) (changed_events labels ++ events_of f) (silent_changed lines)
-    (silent-append (changed_events labels) (events_of f) (silent_changed labels) (silent_follow f)))
+silent_opening : (o : LoadReason) (points : List PlacedBreakpoint) (f : FollowUp)
+    → IsSilent (opening_events o points f)
+silent_opening o points f =
+    silent-append (first_events o) (changed_events points ++ events_of f) (silent_first o)
+    (silent-append (changed_events points) (events_of f) (silent_changed points) (silent_follow f))
 
 silent_refused : (path : Text) (f : EventFault)
     → IsSilent (option_to_list (load_event path (fault.Refused f)))
@@ -155,18 +152,16 @@ silent_load path fault.OutOfMemory = refl
 silent_load path fault.NoStart = refl
 silent_load path (fault.Refused f) = silent_refused path f
 
-silent_loading : (r : Result (Board × ℕ) LoadFault) (o : LoadReason) (l : LaunchOf) (text : Text)
-    (s : SessionState)
-    → IsSilent (loading_as r o l text s).events
-silent_loading (Ok (b, start)) o l text s =
-    let p = program_of l start text in
-    let kept = s.settings.points in
-    silent_opening o (program_lines p kept) (program_labels p kept b) (started_follow o p s)
-silent_loading (Err f) o l text s = silent_load l.program f
+silent_loading : (r : Result (Board × ℕ) LoadFault) (o : LoadReason) (l : LaunchOf) (s : SessionState)
+    → IsSilent (loading_as r o l s).events
+silent_loading (Ok (b, start)) o l s =
+    let p = program_of l start in
+    silent_opening o (all_changed s.settings.program s.board p s.settings.points b) (started_follow o p s)
+silent_loading (Err f) o l s = silent_load l.program f
 
 silent_text : (t : Result Text Text) (o : LoadReason) (l : LaunchOf) (s : SessionState)
     → IsSilent (by_text t s (λ text. loading o l text s)).events
-silent_text (Ok text) o l s = silent_loading (load_result l text) o l text s
+silent_text (Ok text) o l s = silent_loading (load_result l text) o l s
 silent_text (Err message) o l s = refl
 
 silent_launch : (p : Option Program) (l : LaunchOf) (found : Option FileText) (s : SessionState)

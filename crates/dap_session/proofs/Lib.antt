@@ -11,3 +11,4 @@ pub mod RefusalLemmas
 pub mod ChangeLemmas
 pub mod InputLemmas
 pub mod SearchLemmas
+pub mod ArmLemmas

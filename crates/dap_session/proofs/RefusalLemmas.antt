@@ -10,6 +10,7 @@ use Rattle.dap_board.specs.Commands.{Performed, command_result}
 use Rattle.dap_editor.specs.declared.message.UndefinedOpcode.{UndefinedOpcode}
 use Rattle.dap_editor.specs.declared.request.EditorCommand.{EditorCommand}
 use Rattle.dap_editor.specs.declared.request.EditorCommand.TheVariants as editor
+use Rattle.dap_editor.specs.declared.request.LineBreakpoint.{LineBreakpoint}
 use Rattle.dap_editor.specs.declared.request.EvaluateContext.{EvaluateContext}
 use Rattle.dap_editor.specs.declared.request.EvaluateContext.TheVariants as context
 use Rattle.dap_editor.specs.declared.request.Launch.{Launch as LaunchOf}
@@ -90,7 +91,7 @@ reset_done : (s : SessionState) → Refuses s (resetting s)
 unfolding command_result
 reset_done s = λ text is. absurd cc
 
-lines : (path : Text) (ls : List ℕ) (s : SessionState) → Refuses s (setting_lines path ls s)
+lines : (path : Text) (ls : List LineBreakpoint) (s : SessionState) → Refuses s (setting_lines path ls s)
 lines path ls s = either (has_place path s.settings.points.lists) s _ _ (λ text is. absurd cc)
     (λ text is. same s)
 
@@ -100,7 +101,7 @@ command_left command.Initialize s =
 command_left command.Attach s = λ text is. same s
 command_left command.Disconnect s = λ text is. absurd cc
 command_left command.ConfigurationDone s = begun s.settings.program s (set_configured s)
-command_left (command.SetBreakpoints path ls) s = lines path ls s
+command_left (command.SetBreakpoints path ls) s = λ text is. same s
 command_left command.BoardReset s = reset_done s
 command_left command.Continue s = resumed (end_of s.settings.program) command.Continue s
 command_left (command.Step kind granularity) s =
@@ -135,6 +136,7 @@ evaluated : (expression : Text) (c : EvaluateContext) (s : SessionState)
 evaluated expression context.Repl s =
     prompt_left (behind (codes "switches ") expression) (behind (codes "press ") expression)
     (behind (codes "type ") expression) expression s
+evaluated expression context.Watch s = value_left (expression_text s.board expression) s
 evaluated expression context.Other s = value_left (expression_text s.board expression) s
 
 -- ---- commands of editors
@@ -160,7 +162,9 @@ edit_left : (c : EditorCommand) (s : SessionState) → Refuses s (editing c s)
 edit_left (editor.Initialize supported) s =
     either s.settings.is_initialized s _ _ (λ text is. same s) (λ text is. absurd cc)
 edit_left editor.Terminate s = λ text is. absurd cc
-edit_left (editor.SetFunctionBreakpoints names) s = λ text is. absurd cc
+edit_left (editor.SetBreakpoints path ls) s = lines path ls s
+edit_left (editor.SetFunctionBreakpoints functions) s = λ text is. absurd cc
+edit_left (editor.BreakpointLocations path first last) s = λ text is. absurd cc
 edit_left (editor.SetExceptionBreakpoints filters) s = λ text is. absurd cc
 edit_left editor.ExceptionInfo s = explained (exception_of s.settings.program) s
 edit_left (editor.Evaluate expression c) s = evaluated expression c s
@@ -174,14 +178,14 @@ edit_left other s = λ text is. same s
 
 -- ---- programs that are loaded
 
-loaded : (r : Result (Board × ℕ) LoadFault) (o : LoadReason) (l : LaunchOf) (text : Text) (s : SessionState)
-    → RefusesTurn s (loading_as r o l text s)
-loaded (Ok (b, start)) o l text s = λ text is. absurd cc
-loaded (Err f) o l text s = λ text is. same s
+loaded : (r : Result (Board × ℕ) LoadFault) (o : LoadReason) (l : LaunchOf) (s : SessionState)
+    → RefusesTurn s (loading_as r o l s)
+loaded (Ok (b, start)) o l s = λ text is. absurd cc
+loaded (Err f) o l s = λ text is. same s
 
 text_left : (t : Result Text Text) (o : LoadReason) (l : LaunchOf) (s : SessionState)
     → RefusesTurn s (by_text t s (λ text. loading o l text s))
-text_left (Ok text) o l s = loaded (load_result l text) o l text s
+text_left (Ok text) o l s = loaded (load_result l text) o l s
 text_left (Err message) o l s = λ text is. same s
 
 launched : (p : Option Program) (l : LaunchOf) (found : Option FileText) (s : SessionState)

@@ -7,7 +7,8 @@ use Rattle.lab_core.specs.Labs.{LabState, RepresentsBoard}
 use Rattle.dap_history.specs.declared.goal.Goal.{Goal}
 use Rattle.dap_history.specs.declared.input.Recorded.{Recorded}
 use Rattle.dap_history.specs.Runs.{board_at, after_rewind}
-use Rattle.dap_history.specs.Histories.{HistoryState, IsHistoryOf, HasRunOf, KeepsHistory, Saves, is_due}
+use Rattle.dap_history.specs.Histories.{HistoryState, IsHistoryOf, HasRunOf, KeepsHistory, SavesIf}
+use Rattle.dap_history.specs.Histories.{is_due, unread}
 use Rattle.dap_history.specs.Searches.{SearchState, SearchedOn}
 use Rattle.dap_session.specs.States.{SessionState, with_board}
 use Rattle.dap_session.specs.Represents.{SessionFields, RepresentsSession}
@@ -16,12 +17,12 @@ use Rattle.dap_session.specs.declared.settings.SessionSettings.{SessionSettings}
 
 -- ---- moments that are saved
 
-saved_log : (b : Bool) (count : ℕ) (old new : HistoryState) → Saves b count old new → new.log ≡ old.log
+saved_log : (b : Bool) (count : ℕ) (old new : HistoryState) → SavesIf b count old new → new.log ≡ old.log
 saved_log true count old new saves = ap (λ (h : HistoryState). h.log) saves.1
 saved_log false count old new saves = ap (λ (h : HistoryState). h.log) saves
 
 kept_log : {E : Type 0} (b : Bool) (count : ℕ) (old new : HistoryState) (r : Result (Unit {0}) E)
-    → OnOk r (Saves b count old new) → OnErr r (new ≡ old) → new.log ≡ old.log
+    → OnOk r (SavesIf b count old new) → OnErr r (new ≡ old) → new.log ≡ old.log
 kept_log b count old new (Ok done) saves same = saved_log b count old new saves
 kept_log b count old new (Err lack) saves same = ap (λ (h : HistoryState). h.log) same
 
@@ -30,19 +31,23 @@ pub history_kept : {E : Type 0} (start : Board) (count : ℕ) (v : SessionFields
     (r : Result (Unit {0}) E) → lab ≡ v.lab → IsHistoryOf start old
     → IsRunAt start old count v
     → (HasRunOf (board_at start old.log count) lab → IsHistoryOf start new)
-    → OnOk r (Saves (is_due old.moments count) count old new) → OnErr r (new ≡ old)
-    → KeepsHistory start old new
-history_kept start count v lab old new r view history at keeps saves same = record {
-  history = keeps (record {
-    now = at.s.board;
-    represents =
-        subst (λ (l : LabState). RepresentsBoard l at.s.board) (sym view) at.represents.board;
-    machine = at.parts.machine;
-    past = at.parts.past;
-    trace = at.parts.trace;
-  });
-  log = kept_log (is_due old.moments count) count old new r saves same;
-}
+    → ((b : Board) → RepresentsBoard lab b
+    → OnOk r (SavesIf (is_due old.moments count (unread b)) count old new))
+    → OnErr r (new ≡ old) → KeepsHistory start old new
+history_kept start count v lab old new r view history at keeps saves same =
+    let now = at.s.board in
+    let represents : RepresentsBoard lab now =
+    subst (λ (l : LabState). RepresentsBoard l now) (sym view) at.represents.board in
+    record {
+      history = keeps (record {
+        now = now;
+        represents = represents;
+        machine = at.parts.machine;
+        past = at.parts.past;
+        trace = at.parts.trace;
+      });
+      log = kept_log (is_due old.moments count (unread now)) count old new r (saves now represents) same;
+    }
 
 -- ---- searches
 

@@ -42,12 +42,13 @@ running_is Running w is = refl
 running_is Stopped w is = absurd (true≢false (sym is))
 
 -- a slice of a run that goes on
-pub stands_sliced : (n : ℕ) (held : ExceptionFilters) (old : SessionFields) (lab new : LabState)
+pub stands_sliced : (n : ℕ) (held : ExceptionFilters) (asked : Bool) (old : SessionFields)
+    (lab new : LabState)
     (slice : Slice)
     → lab ≡ old.lab → ((s : SessionState) → RepresentsSession old s → wants_slice s ≡ true)
-    → ((b : Board) → RepresentsBoard lab b → b.run ≡ Running → IsSliceOf n held b slice new)
+    → ((b : Board) → RepresentsBoard lab b → b.run ≡ Running → IsSliceOf n held asked b slice new)
     → RepresentsSomeBoard lab → RepresentsSomeBoard new
-stands_sliced n held old lab new slice same wants made (b, represents) =
+stands_sliced n held asked old lab new slice same wants made (b, represents) =
     let s : SessionState = record { board = b; settings = old.settings } in
     let viewed : RepresentsSession old s =
     record { board = subst (λ l. RepresentsBoard l b) same represents; settings = refl } in

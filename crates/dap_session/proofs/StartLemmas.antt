@@ -1,6 +1,6 @@
 -- What is told of stops and of ends where a program begins.
 use Rattle.std.proofs.Common.{◌≡◌, ◌∙◌, ℕ, List, [], ◌∷◌, ◌++◌, Bool, true, false, not, Option, Some}
-use Rattle.std.proofs.Common.{None, Result}
+use Rattle.std.proofs.Common.{None, Result, take}
 use Rattle.std.proofs.Common.{Ok, Err, option_to_list, if◌then◌else◌, refl, sym, ap, subst, inl, inr, fold}
 use Rattle.std.proofs.lemmas.Bool.{cases_Bool, and_parts}
 use Rattle.base_text.specs.Bytes.{Text}
@@ -33,8 +33,10 @@ use Rattle.dap_session.specs.States.{SessionState, with_board, with_program}
 use Rattle.dap_session.specs.Turns.{Turn}
 use Rattle.dap_launch.specs.Files.{text_in}
 use Rattle.dap_launch.specs.Lives.{in_phase, is_over, is_live}
-use Rattle.dap_launch.specs.Programs.{pauses, going_follow, begun_follow, program_of, program_lines}
-use Rattle.dap_launch.specs.Programs.{program_labels, program_board, with_input, begun_if, board_if}
+use Rattle.dap_launch.specs.Programs.{pauses, going_follow, begun_follow, program_of}
+use Rattle.dap_launch.specs.Points.{all_changed}
+use Rattle.dap_launch.specs.Programs.{program_board, program_lines, with_input, begun_if, board_if}
+use Rattle.dap_program.specs.Breakpoints.{labels_behind}
 use Rattle.dap_session.specs.Launches.{installing, beginning_in, beginning_where, started_follow}
 use Rattle.dap_session.specs.Launches.{loading_as, by_text, loading, launching_over, restarting_of}
 use Rattle.dap_session.specs.Requests.{set_configured}
@@ -147,11 +149,7 @@ calm_point p es calm = record { stops = λ d. calm.stops d; ends = calm.ends }
 
 calm_changed : (points : List PlacedBreakpoint) → IsCalm (changed_events points)
 calm_changed [] = calm_none
-calm_changed (p ∷ points) = elim (cases_Bool p.is_verified) [
-  | inl so ↦ rw so (calm_point (record p { is_verified = true }) (changed_events points)
-      (calm_changed points))
-  | inr other ↦ rw other (calm_changed points)
-]
+calm_changed (p ∷ points) = calm_point p (changed_events points) (calm_changed points)
 
 calm_first : (o : LoadReason) → IsCalm (first_events o)
 calm_first Launch = record { stops = λ d. refl; ends = refl }
@@ -172,17 +170,17 @@ abbrev put : Program → Board → SessionState → SessionState
 put p b s = with_board b (with_program (Some p) s)
 
 -- and begins where the configuration is done
-follows_started : (c : Bool) (o : LoadReason) (l : LaunchOf) (start : ℕ) (text : Text) (s : SessionState)
+follows_started : (c : Bool) (o : LoadReason) (l : LaunchOf) (start : ℕ) (s : SessionState)
     (b : Board)
     → s.settings.is_configured ≡ c → IsReached (seen s) → b.run ≡ NoRun → b.is_attached ≡ l.is_debugged
     → GoesOn (shown_for s.board.run) (going_follow o)
     → Follows (seen s) (as_messages (events_of (if c then begun_follow o l else follow.Nothing)))
-    (seen (put (begun_if c (program_of l start text)) (board_if c (program_of l start text) b) s))
-follows_started true o l start text s b done reached none attached goes =
+    (seen (put (begun_if c (program_of l start)) (board_if c (program_of l start) b) s))
+follows_started true o l start s b done reached none attached goes =
     let kept = kept_typed l.input b in
-    begins (pauses l) (going_follow o) (program_of l start text) (with_input l.input b)
+    begins (pauses l) (going_follow o) (program_of l start) (with_input l.input b)
     s.settings.is_configured (seen s) (kept.run ∙ none) (kept.is_attached ∙ attached) (debugged l) done goes
-follows_started false o l start text s b done reached none attached goes = record {
+follows_started false o l start s b done reached none attached goes = record {
   reached = (attached, none);
   stops = ap shown_for (waiting (seen s) reached done) ∙ sym (ap shown_for none);
   ends = none_living (is_live s.settings.program) true refl;
@@ -191,38 +189,36 @@ follows_started false o l start text s b done reached none attached goes = recor
 abbrev pub FollowsTurn : SessionState → Turn → Type 0
 FollowsTurn s t = Follows (seen s) (as_messages t.events) (seen t.state)
 
-follows_installing : (o : LoadReason) (l : LaunchOf) (start : ℕ) (text : Text) (b : Board) (s : SessionState)
+follows_installing : (o : LoadReason) (l : LaunchOf) (start : ℕ) (b : Board) (s : SessionState)
     → IsReached (seen s) → b.run ≡ NoRun → b.is_attached ≡ l.is_debugged
     → GoesOn (shown_for s.board.run) (going_follow o)
-    → FollowsTurn s (installing o (program_of l start text) b s)
-follows_installing o l start text b s reached none attached goes =
-    let p = program_of l start text in
+    → FollowsTurn s (installing o (program_of l start) b s)
+follows_installing o l start b s reached none attached goes =
+    let p = program_of l start in
     let kept = s.settings.points in
-    let lines = program_lines p kept in
-    let labels = program_labels p kept b in
+    let points = all_changed s.settings.program s.board p kept b in
     let last = events_of (started_follow o p s) in
     let board = program_board p kept b in
-    let run = kept_armed l.program _ _ b in
-    calm_follows (first_events o) (changed_events lines ++ (changed_events labels ++ last)) _ _ (calm_first o)
-    (calm_follows (changed_events lines) (changed_events labels ++ last) _ _ (calm_changed lines)
-    (calm_follows (changed_events labels) last _ _ (calm_changed labels)
-    (follows_started s.settings.is_configured o l start text s board refl reached (run.run ∙ none)
-    (run.is_attached ∙ attached) goes)))
+    let lines = program_lines p kept b in
+    let run = kept_armed l.program lines (labels_behind b lines (take 256 kept.functions)) b in
+    calm_follows (first_events o) (changed_events points ++ last) _ _ (calm_first o)
+    (calm_follows (changed_events points) last _ _ (calm_changed points)
+    (follows_started s.settings.is_configured o l start s board refl reached (run.run ∙ none)
+    (run.is_attached ∙ attached) goes))
 
-follows_loaded : (r : Result (Board × ℕ) LoadFault) (o : LoadReason) (l : LaunchOf) (text : Text)
-    (s : SessionState)
+follows_loaded : (r : Result (Board × ℕ) LoadFault) (o : LoadReason) (l : LaunchOf) (s : SessionState)
     → IsReached (seen s) → IsLoaded l r → GoesOn (shown_for s.board.run) (going_follow o)
-    → FollowsTurn s (loading_as r o l text s)
-follows_loaded (Ok (b, start)) o l text s reached is goes =
-    follows_installing o l start text b s reached is.0 is.1 goes
-follows_loaded (Err f) o l text s reached is goes =
+    → FollowsTurn s (loading_as r o l s)
+follows_loaded (Ok (b, start)) o l s reached is goes =
+    follows_installing o l start b s reached is.0 is.1 goes
+follows_loaded (Err f) o l s reached is goes =
     calm_still (option_to_list (load_event l.program f)) (seen s) reached (calm_load l.program f)
 
 follows_text : (t : Result Text Text) (o : LoadReason) (l : LaunchOf) (s : SessionState) → IsReached (seen s)
     → GoesOn (shown_for s.board.run) (going_follow o)
     → FollowsTurn s (by_text t s (λ text. loading o l text s))
 follows_text (Ok text) o l s reached goes =
-    follows_loaded (load_result l text) o l text s reached (is_loaded l text) goes
+    follows_loaded (load_result l text) o l s reached (is_loaded l text) goes
 follows_text (Err message) o l s reached goes = (still s s reached refl).follows
 
 pub follows_launch : (o : Option Program) (l : LaunchOf) (found : Option FileText) (s : SessionState)

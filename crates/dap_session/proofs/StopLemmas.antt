@@ -5,7 +5,6 @@ use Rattle.std.proofs.Common.{option_map, if◌then◌else◌}
 use Rattle.std.proofs.Common.{None, Ok, refl, sym, ap, subst, inl, inr, true≢false, fold, filter_map}
 use Rattle.std.proofs.lemmas.Bool.{cases_Bool, and_parts}
 use Rattle.std.proofs.lemmas.List.Sums.{fold-append}
-use Rattle.std.specs.List.{list_any}
 use Rattle.base_text.specs.Bytes.{Bytes, Text}
 use Rattle.base_text.specs.Latin.{latin_bytes}
 use Rattle.lab_views.specs.declared.view.View.TheVariants as view
@@ -21,7 +20,7 @@ use Rattle.lab_core.specs.Board.{Board}
 use Rattle.lab_core.specs.Events.{result_of}
 use Rattle.lab_core.specs.Slices.{traffic_of, after_steps, left_by}
 use Rattle.lab_core.specs.SliceEnds.{slice_end}
-use Rattle.i80_devs.specs.Console.{written_to_console, wants_line}
+use Rattle.i80_devs.specs.Console.{written_to_console}
 use Rattle.dap_answers.specs.declared.answer.Body.TheVariants as body
 use Rattle.dap_answers.specs.Murmur.{cell_path}
 use Rattle.dap_talk.specs.declared.command.DapCommand.{DapCommand}
@@ -34,6 +33,7 @@ use Rattle.dap_editor.specs.declared.request.EditorCommand.{EditorCommand}
 use Rattle.dap_editor.specs.declared.request.EditorCommand.TheVariants as editor
 use Rattle.dap_program.specs.Messages.{as_messages}
 use Rattle.dap_program.specs.Slices.{console_events, line_events, outcome_events, run_end_events}
+use Rattle.dap_program.specs.Slices.{asks_line}
 use Rattle.dap_editor.specs.declared.message.UndefinedOpcode.{UndefinedOpcode}
 use Rattle.dap_editor.specs.declared.request.Launch.{Launch as LaunchOf}
 use Rattle.dap_program.specs.declared.end.EndPolicy.{EndPolicy}
@@ -55,7 +55,7 @@ use Rattle.dap_session.specs.Requests.{resuming_from, explaining, set_initialize
 use Rattle.dap_session.specs.Requests.{objection, asking}
 use Rattle.dap_session.specs.Requests.{asking_unless, turn}
 use Rattle.dap_session.specs.Slices.{Input, request, slice, settings_after, slicing, slice_told, step}
-use Rattle.dap_session.specs.Slices.{play_all}
+use Rattle.dap_session.specs.Slices.{play_all, with_question}
 use Rattle.dap_session.specs.Laws.{Shown, stopped, unstopped, shown_after, shown_by, shown_for, ends_told}
 use Rattle.dap_session.specs.Laws.{ends_between, has_run, has_begun, events_in, asks_to_load, loads}
 use Rattle.dap_session.proofs.BoardLemmas.{SameRun, kept_without, kept_dump, kept_poke, kept_press}
@@ -100,7 +100,7 @@ goes_command command.Initialize s reached =
 goes_command command.Attach s reached = still s s reached refl
 goes_command command.Disconnect s reached = still s _ reached refl
 goes_command command.ConfigurationDone s reached = goes_where s.settings.program s refl reached
-goes_command (command.SetBreakpoints path lines) s reached = goes_lines path lines s reached
+goes_command (command.SetBreakpoints path lines) s reached = still s s reached refl
 goes_command command.BoardReset s reached = goes_resetting s reached
 goes_command command.Threads s reached = still s _ reached refl
 goes_command (command.StackTrace start levels) s reached = goes_shown (view.Frames start levels) s reached
@@ -138,7 +138,8 @@ goes_editing (editor.Initialize supported) s reached =
     goes_either s.settings.is_initialized s _ _ (still s s reached refl)
     (still s (set_initialized supported s) reached refl)
 goes_editing editor.Terminate s reached = goes_terminating s reached
-goes_editing (editor.SetFunctionBreakpoints names) s reached = goes_functions names s reached
+goes_editing (editor.SetBreakpoints path lines) s reached = goes_lines path lines s reached
+goes_editing (editor.SetFunctionBreakpoints functions) s reached = goes_functions functions s reached
 goes_editing (editor.SetExceptionBreakpoints filters) s reached =
     still s (with_filters filters s) reached refl
 goes_editing (editor.WriteMemory address offset bytes) s reached = goes_writing address offset bytes s reached
@@ -316,12 +317,13 @@ pub follows_slicing : (p : ℕ × SliceOutcome) (s : SessionState) → IsReached
     → Follows (seen s) (slicing p s).messages (seen (slicing p s).state)
 follows_slicing (k, ending) s reached has =
     let written = filter_map written_to_console (traffic_of k s.board) in
-    let asks = list_any wants_line (traffic_of k s.board) in
+    let asks = asks_line s.settings.has_asked k (traffic_of k s.board) in
+    let noted : SessionState = record s { settings = with_question asks s.settings } in
     let last = outcome_events (held_in s) ending in
     calm_follows (console_events written) (line_events asks ++ last) _ _
     (calm_console written)
     (calm_follows (line_events asks) last _ _ (calm_line asks)
-    (follows_outcome ending (after_steps k s.board) s (kept_steps k s.board) reached has))
+    (follows_outcome ending (after_steps k s.board) noted (kept_steps k s.board) reached has))
 
 pub running_has : (r : RunState) → is_running r ≡ true → has_run r ≡ true
 running_has NoRun is = absurd (true≢false (sym is))

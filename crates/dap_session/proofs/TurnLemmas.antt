@@ -22,6 +22,8 @@ use Rattle.dap_talk.specs.declared.command.DapCommand.TheVariants as command
 use Rattle.dap_board.specs.Bodies.{body_of}
 use Rattle.dap_board.specs.Commands.{command_result, with_body}
 use Rattle.dap_editor.specs.declared.message.EditorStop.TheVariants.{Board as AtBoard, Goto}
+use Rattle.dap_editor.specs.declared.request.LineBreakpoint.{LineBreakpoint}
+use Rattle.dap_editor.specs.declared.request.FunctionBreakpoint.{FunctionBreakpoint}
 use Rattle.dap_editor.specs.declared.request.EvaluateContext.{EvaluateContext}
 use Rattle.dap_editor.specs.declared.request.EvaluateContext.TheVariants as context
 use Rattle.dap_editor.specs.declared.request.SignedOffset.{SignedOffset}
@@ -153,19 +155,20 @@ pub goes_evaluating : (expression : Text) (c : EvaluateContext) (s : SessionStat
 goes_evaluating expression context.Repl s reached =
     goes_prompt (behind (codes "switches ") expression) (behind (codes "press ") expression)
     (behind (codes "type ") expression) expression s reached
+goes_evaluating expression context.Watch s reached = goes_value (expression_text s.board expression) s reached
 goes_evaluating expression context.Other s reached = goes_value (expression_text s.board expression) s reached
 
-pub goes_lines : (path : Text) (lines : List ℕ) (s : SessionState) → IsReached (seen s)
+pub goes_lines : (path : Text) (lines : List LineBreakpoint) (s : SessionState) → IsReached (seen s)
     → GoesBy s (setting_lines path lines s)
 goes_lines path lines s reached =
     goes_either (has_place path s.settings.points.lists) s _ _
-    (still s _ reached (seen_board _ s (kept_where (program_at path s.settings.program) lines _ s.board)))
+    (still s _ reached (seen_board _ s (kept_where (program_at path s.settings.program) _ _ _ s.board)))
     (still s s reached refl)
 
-pub goes_functions : (names : List Text) (s : SessionState) → IsReached (seen s)
-    → GoesBy s (setting_functions names s)
-goes_functions names s reached =
-    still s _ reached (seen_board _ s (kept_labels s.settings.program names s.settings.points s.board))
+pub goes_functions : (functions : List FunctionBreakpoint) (s : SessionState) → IsReached (seen s)
+    → GoesBy s (setting_functions functions s)
+goes_functions functions s reached =
+    still s _ reached (seen_board _ s (kept_labels s.settings.program functions s.settings.points s.board))
 
 goes_written : (o : Option ℕ) (bytes : Bytes) (s : SessionState) → IsReached (seen s)
     → GoesBy s (writing_from o bytes s)

@@ -1,14 +1,18 @@
--- Breakpoints (Debug Adapter Protocol, `setBreakpoints` and `setFunctionBreakpoints`).
+-- Breakpoints (Debug Adapter Protocol, `setBreakpoints`, `setFunctionBreakpoints` and `breakpointLocations`).
 use Rattle.std.specs.Prelude.{ℕ, List, [], take, Option, Some, None, codes, if◌then◌else◌}
 use Rattle.std.specs.Str.{bytes_eq}
 use Rattle.base_text.specs.Bytes.{Text}
 use Rattle.lab_core.specs.Board.{Board}
-use Rattle.dap_editor.specs.declared.message.EditorBody.TheVariants.{Breakpoints}
+use Rattle.dap_editor.specs.declared.message.EditorBody.TheVariants.{Breakpoints, Locations}
+use Rattle.dap_editor.specs.declared.request.LineBreakpoint.{LineBreakpoint}
+use Rattle.dap_editor.specs.declared.request.FunctionBreakpoint.{FunctionBreakpoint}
+use Rattle.dap_points.specs.declared.points.SourceLines.{SourceLines}
 use Rattle.dap_points.specs.Points.{WantedBreakpointsState, number_of, has_place, lines_at, with_lines}
-use Rattle.dap_points.specs.Placed.{line_points}
 use Rattle.dap_program.specs.declared.messages.FollowUp.TheVariants.{Nothing}
-use Rattle.dap_program.specs.Breakpoints.{labels_behind, board_armed_at}
+use Rattle.dap_program.specs.CodeLines.{locations}
 use Rattle.dap_launch.specs.declared.program.Program.{Program}
+use Rattle.dap_launch.specs.Programs.{armed_with}
+use Rattle.dap_launch.specs.Points.{points_where, labels_where}
 use Rattle.dap_session.specs.States.{SessionState, with_board, with_points}
 use Rattle.dap_session.specs.Turns.{Replied, refusing, succeeding}
 
@@ -19,49 +23,52 @@ abbrev pub program_at : Text → Option Program → Option Program
 program_at path None = None
 program_at path (Some p) = if bytes_eq p.launch.program path then Some p else None
 
--- the number of lines of a program's text, which isn't known of other sources
-abbrev pub line_count_of : Option Program → ℕ
-line_count_of None = 0
-line_count_of (Some p) = p.line_count
-
 -- only the program that was launched is on the board
-abbrev pub armed_where : Option Program → List ℕ → List Text → Board → Board
-armed_where None lines names b = b
-armed_where (Some program) lines names b = board_armed_at program.launch.program lines names b
+abbrev pub armed_where : Option Program → ℕ → List LineBreakpoint → List FunctionBreakpoint → Board → Board
+armed_where None number lines functions b = b
+armed_where (Some program) number lines functions b = armed_with program number lines functions b
 
-abbrev pub lines_armed : Text → List ℕ → SessionState → SessionState
-lines_armed path lines s =
-    with_board (armed_where (program_at path s.settings.program) lines
-    (take 256 s.settings.points.functions) s.board)
+abbrev pub lines_armed : SourceLines → SessionState → SessionState
+lines_armed l s =
+    let kept = s.settings.points in
+    with_board (armed_where (program_at l.path s.settings.program) (number_of l.path kept.lists)
+    (take 256 l.lines) (take 256 kept.functions) s.board)
     s
 
-abbrev pub lines_set : Option Program → Text → List ℕ → SessionState → Replied
-lines_set program path lines s =
-    let p = s.settings.points in
-    succeeding (Breakpoints (line_points (number_of path p.lists) (line_count_of program) 0 lines)) Nothing
-    (with_points (with_lines path lines p) (lines_armed path lines s))
+abbrev pub lines_set : SourceLines → SessionState → Replied
+lines_set l s =
+    let kept = s.settings.points in
+    let points = points_where s.settings.program s.board (number_of l.path kept.lists) l in
+    succeeding (Breakpoints points) Nothing (with_points (with_lines l.path l.lines kept) (lines_armed l s))
 
-abbrev pub setting_lines : Text → List ℕ → SessionState → Replied
+abbrev pub setting_lines : Text → List LineBreakpoint → SessionState → Replied
 setting_lines path lines s =
-    if has_place path s.settings.points.lists
-    then lines_set (program_at path s.settings.program) path lines s
+    if has_place path s.settings.points.lists then lines_set (record { path = path; lines = lines }) s
     else refusing (codes "too many sources have breakpoints") s
 
 -- ---- labels
 
--- the lines of the program that are to have breakpoints
-abbrev pub program_lines : Option Program → WantedBreakpointsState → List ℕ
-program_lines None p = []
-program_lines (Some program) p = lines_at program.launch.program p.lists
+abbrev pub labels_armed : Option Program → List FunctionBreakpoint → WantedBreakpointsState → Board → Board
+labels_armed None functions p b = b
+labels_armed (Some program) functions p b =
+    let path = program.launch.program in
+    armed_with program (number_of path p.lists) (lines_at path p.lists) functions b
 
-abbrev pub labels_armed : Option Program → List Text → WantedBreakpointsState → Board → Board
-labels_armed None names p b = b
-labels_armed (Some program) names p b =
-    board_armed_at program.launch.program (lines_at program.launch.program p.lists) names b
-
-abbrev pub setting_functions : List Text → SessionState → Replied
-setting_functions names s =
+abbrev pub setting_functions : List FunctionBreakpoint → SessionState → Replied
+setting_functions functions s =
     let p = s.settings.points in
     let program = s.settings.program in
-    succeeding (Breakpoints (labels_behind (program_lines program p) names s.board)) Nothing
-    (with_board (labels_armed program names p s.board) (with_points (record p { functions = names }) s))
+    succeeding (Breakpoints (labels_where program p functions s.board)) Nothing
+    (with_board (labels_armed program functions p s.board)
+    (with_points (record p { functions = functions }) s))
+
+-- ---- locations
+
+-- none in a source that isn't the program
+abbrev pub locations_in : Option Program → ℕ → ℕ → Board → List ℕ
+locations_in None first last b = []
+locations_in (Some program) first last b = locations first last b
+
+abbrev pub locating : Text → ℕ → ℕ → SessionState → Replied
+locating path first last s =
+    succeeding (Locations (locations_in (program_at path s.settings.program) first last s.board)) Nothing s

@@ -3,7 +3,7 @@ use Rattle.std.specs.Prelude.{Result, Ok, Err, codes}
 use Rattle.base_text.specs.Bytes.{Text}
 use Rattle.dap_board.specs.Commands.{Performed, command_result}
 use Rattle.dap_editor.specs.declared.request.EvaluateContext.{EvaluateContext}
-use Rattle.dap_editor.specs.declared.request.EvaluateContext.TheVariants.{Repl, Other}
+use Rattle.dap_editor.specs.declared.request.EvaluateContext.TheVariants.{Repl, Watch, Other}
 use Rattle.dap_editor.specs.declared.message.EditorBody.TheVariants.{Evaluation}
 use Rattle.dap_inspect.specs.declared.fault.EvaluateFault.{EvaluateFault}
 use Rattle.dap_inspect.specs.Expressions.{expression_text, message_of}
@@ -42,4 +42,5 @@ prompting prompt.Evaluate expression s = looking expression s
 -- only what is typed at the prompt may be a command
 abbrev pub evaluating : Text → EvaluateContext → SessionState → Replied
 evaluating expression Repl s = prompting (prompt_command expression) expression s
+evaluating expression Watch s = looking expression s
 evaluating expression Other s = looking expression s

@@ -9,7 +9,8 @@ use Rattle.dap_launch.specs.declared.program.Phase.TheVariants as phase
 use Rattle.dap_launch.specs.declared.program.Program.{Program}
 use Rattle.dap_launch.specs.Files.{text_in}
 use Rattle.dap_launch.specs.Lives.{in_phase}
-use Rattle.dap_launch.specs.Programs.{program_of, begun_follow, program_lines, program_labels}
+use Rattle.dap_launch.specs.Programs.{program_of, begun_follow}
+use Rattle.dap_launch.specs.Points.{all_changed}
 use Rattle.dap_launch.specs.Programs.{program_board, begun_board, board_if, begun_if}
 use Rattle.dap_program.specs.declared.load.LoadFault.{LoadFault}
 use Rattle.dap_program.specs.declared.messages.FollowUp.{FollowUp}
@@ -55,7 +56,7 @@ installing cause p b s =
     let follow = started_follow cause p s in
     record {
       outcome = accepted_outcome;
-      events = opening_events cause (program_lines p kept) (program_labels p kept b) follow;
+      events = opening_events cause (all_changed s.settings.program s.board p kept b) follow;
       state =
           with_board (board_if begins p (program_board p kept b)) (with_program (Some (begun_if begins p)) s);
     }
@@ -67,13 +68,13 @@ failing path f s = record (turn_of (refusing (load_refusal f) s)) {
       option_to_list (load_event path f);
 }
 
-abbrev pub loading_as : Result (Board × ℕ) LoadFault → LoadReason → LaunchOf → Text → SessionState → Turn
-loading_as (Ok (b, start)) cause l text s = installing cause (program_of l start text) b s
-loading_as (Err f) cause l text s = failing l.program f s
+abbrev pub loading_as : Result (Board × ℕ) LoadFault → LoadReason → LaunchOf → SessionState → Turn
+loading_as (Ok (b, start)) cause l s = installing cause (program_of l start) b s
+loading_as (Err f) cause l s = failing l.program f s
 
 -- a program's text is loaded
 abbrev pub loading : LoadReason → LaunchOf → Text → SessionState → Turn
-loading cause l text s = loading_as (load_result l text) cause l text s
+loading cause l text s = loading_as (load_result l text) cause l s
 
 -- unless its file has no text
 abbrev pub by_text : Result Text Text → SessionState → (Text → Turn) → Turn

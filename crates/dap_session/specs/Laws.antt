@@ -217,10 +217,12 @@ pub record IsWatched (a : RequestContent) (s s' : SessionState) : Type 0 where
 -- a request that only looks
 abbrev pub IsLook : RequestContent → Type 0
 IsLook (asked.Board c) = board.IsLook c
+IsLook (asked.Editor (editor.Evaluate expression context.Watch)) = Unit {0}
 IsLook (asked.Editor (editor.Evaluate expression context.Other)) = Unit {0}
 IsLook (asked.Editor editor.ExceptionInfo) = Unit {0}
 IsLook (asked.Editor (editor.ReadMemory address offset count)) = Unit {0}
 IsLook (asked.Editor (editor.Disassemble address offset instruction_offset count)) = Unit {0}
 IsLook (asked.Editor editor.LoadedSources) = Unit {0}
 IsLook (asked.Editor (editor.GotoTargets path line)) = Unit {0}
+IsLook (asked.Editor (editor.BreakpointLocations path first last)) = Unit {0}
 IsLook other = ⊥

@@ -2,15 +2,11 @@
 use Rattle.std.specs.Prelude.{◌≡◌, ℕ, Result, List, OnErr, IfOk, true}
 use Rattle.std.specs.declared.alloc.AllocError.{AllocError}
 use Rattle.lab_core.specs.Labs.{LabState, RepresentsBoard}
-use Rattle.base_text.specs.Bytes.{Text}
 use Rattle.dap_editor.specs.declared.message.Message.{Message}
-use Rattle.dap_editor.specs.declared.message.PlacedBreakpoint.{PlacedBreakpoint}
 use Rattle.dap_session.specs.declared.settings.SessionSettings.{SessionSettings}
 use Rattle.dap_launch.specs.declared.reply.Reply.{Reply}
-use Rattle.dap_session.specs.States.{SessionState, with_board, wants_slice}
+use Rattle.dap_session.specs.States.{SessionState, wants_slice}
 use Rattle.dap_session.specs.Turns.{Replied}
-use Rattle.dap_program.specs.Breakpoints.{labels_behind}
-use Rattle.dap_session.specs.Breakpoints.{program_lines, labels_armed}
 use Rattle.dap_session.specs.Slices.{Told, slicing}
 use Rattle.dap_session.specs.declared.session.RunSlice.{RunSlice}
 use Rattle.dap_program.specs.SliceEnds.{slice_end_within}
@@ -53,14 +49,6 @@ abbrev pub TellsAs : (SessionState → Told) → SessionFields → Result (List 
 TellsAs f old result new =
     ((s : SessionState) → RepresentsSession old s → IfOk result (λ messages. Tells (f s) messages new))
     × OnErr result (new ≡ old)
-
--- these are the breakpoints at labels, and the board stops at them
-pub record LabelsPlaced (names : List Text) (s : SessionState) (points : List PlacedBreakpoint)
-    (new : SessionFields)
-    : Type 0 where
-  pub placed : points ≡ labels_behind (program_lines s.settings.program s.settings.points) names s.board
-  pub represents : RepresentsSession new (with_board (labels_armed s.settings.program names s.settings.points
-      s.board) s)
 
 -- a run goes on
 abbrev pub WantsSlice : SessionFields → Type 0

@@ -27,10 +27,11 @@ use Rattle.dap_program.specs.Refusals.{board_refusal, request_refusal}
 use Rattle.dap_launch.specs.declared.file.FileText.{FileText}
 use Rattle.dap_launch.specs.declared.program.Program.{Program}
 use Rattle.dap_launch.specs.Lives.{is_live, end_of, exception_of}
-use Rattle.dap_session.specs.States.{SessionState, no_events, with_board, with_filters, with_waits}
+use Rattle.dap_inputs.specs.Inputs.{ends_question}
+use Rattle.dap_session.specs.States.{SessionState, no_events, with_board, with_filters, after_answer}
 use Rattle.dap_session.specs.States.{program_over}
 use Rattle.dap_session.specs.Turns.{Turn, Replied, turn_of, change_follow, refusing, succeeding, accepting}
-use Rattle.dap_session.specs.Breakpoints.{setting_lines, setting_functions}
+use Rattle.dap_session.specs.Breakpoints.{setting_lines, setting_functions, locating}
 use Rattle.dap_session.specs.Evaluations.{evaluating}
 use Rattle.dap_session.specs.Memory.{memory_at, writing, first_line, code_at}
 use Rattle.dap_session.specs.Targets.{finding_target, going_to}
@@ -136,7 +137,7 @@ commanding command.Initialize s = initializing no_events s
 commanding command.Attach s = refusing (codes "attach is not supported: launch a program") s
 commanding command.Disconnect s = disconnecting s
 commanding command.ConfigurationDone s = configuring s
-commanding (command.SetBreakpoints path lines) s = setting_lines path lines s
+commanding (command.SetBreakpoints path lines) s = refusing (codes "unknown command") s
 commanding command.BoardReset s = resetting s
 commanding command.Continue s = resuming command.Continue s
 commanding (command.Step kind granularity) s = resuming (command.Step kind granularity) s
@@ -152,15 +153,21 @@ editing_memory (editor.GotoTargets path line) s = finding_target path line s
 editing_memory (editor.Goto target) s = going_to target s
 editing_memory other s = refusing (codes "unknown command") s
 
+-- those of breakpoints
+abbrev pub editing_points : EditorCommand → SessionState → Replied
+editing_points (editor.SetBreakpoints path lines) s = setting_lines path lines s
+editing_points (editor.SetFunctionBreakpoints functions) s = setting_functions functions s
+editing_points (editor.BreakpointLocations path first last) s = locating path first last s
+editing_points other s = editing_memory other s
+
 abbrev pub editing : EditorCommand → SessionState → Replied
 editing (editor.Initialize supported) s = initializing supported s
 editing editor.Terminate s = terminating s
-editing (editor.SetFunctionBreakpoints names) s = setting_functions names s
 editing (editor.SetExceptionBreakpoints filters) s = accepting follow.Nothing (with_filters filters s)
 editing editor.ExceptionInfo s = explaining (exception_of s.settings.program) s
 editing (editor.Evaluate expression context) s = evaluating expression context s
 editing editor.LoadedSources s = succeeding (body.Sources (sources s.settings.program)) follow.Nothing s
-editing other s = editing_memory other s
+editing other s = editing_points other s
 
 abbrev pub replying : RequestContent → SessionState → Replied
 replying (asked.Board c) s = commanding c s
@@ -185,13 +192,12 @@ abbrev pub asking_unless : Option Text → RequestContent → Option FileText �
 asking_unless (Some text) a found s = turn_of (refusing text s)
 asking_unless None a found s = asking a found s
 
--- a run that waits is tried again
-abbrev pub and_tried : Turn → Turn
-and_tried t = record t { state = with_waits false t.state }
+abbrev pub and_noted : RequestContent → Turn → Turn
+and_noted a t = record t { state = after_answer (ends_question a) t.state }
 
 -- a request; `found` is what was found at the path that it needs
 unfoldable pub turn : RequestContent → Option FileText → SessionState → Turn
-turn a found s = and_tried (asking_unless (objection a s) a found s)
+turn a found s = and_noted a (asking_unless (objection a s) a found s)
 
 -- ---- the path whose text a request needs
 

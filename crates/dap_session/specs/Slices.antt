@@ -1,5 +1,5 @@
 -- A slice of the run, and the messages of a whole session.
-use Rattle.std.specs.Prelude.{ℕ, List, [], ◌∷◌, ◌++◌, true, Option, option_map}
+use Rattle.std.specs.Prelude.{ℕ, List, [], ◌∷◌, ◌++◌, Bool, true, ◌||◌, Option, option_map}
 use Rattle.std.specs.Prelude.{if◌then◌else◌}
 use Rattle.lab_core.specs.declared.answer.SliceOutcome.{SliceOutcome}
 use Rattle.lab_core.specs.declared.answer.SliceOutcome.TheVariants as outcome
@@ -10,7 +10,7 @@ use Rattle.dap_program.specs.declared.messages.RequestId.{RequestId}
 use Rattle.dap_program.specs.Messages.{as_messages, turn_messages}
 use Rattle.lab_core.specs.SliceEnds.{slice_end}
 use Rattle.dap_program.specs.Ends.{held_at_end}
-use Rattle.dap_program.specs.Slices.{slice_events}
+use Rattle.dap_program.specs.Slices.{slice_events, asks_line}
 use Rattle.dap_launch.specs.Lives.{held_ends, ended_program}
 use Rattle.dap_launch.specs.declared.file.FileText.{FileText}
 use Rattle.dap_session.specs.declared.settings.SessionSettings.{SessionSettings}
@@ -32,14 +32,20 @@ settings_after outcome.Waiting t = record t { waits = true }
 settings_after (outcome.Stop reason) t = t
 settings_after (outcome.End how) t = record t { program = option_map (ended_program t.filters how) t.program }
 
+-- the program may have asked for a line
+abbrev pub with_question : Bool → SessionSettings → SessionSettings
+with_question asks t = record t { has_asked = t.has_asked || asks }
+
 abbrev pub slicing : ℕ × SliceOutcome → SessionState → Told
 slicing (k, ending) s =
     let held = held_ends s.settings.filters s.settings.program in
+    let traffic = traffic_of k s.board in
+    let asks = asks_line s.settings.has_asked k traffic in
     record {
-      messages = as_messages (slice_events held (traffic_of k s.board) ending);
+      messages = as_messages (slice_events held asks traffic ending);
       state = record {
         board = held_at_end held ending (left_by ending (after_steps k s.board));
-        settings = settings_after ending s.settings;
+        settings = settings_after ending (with_question asks s.settings);
       };
     }
 

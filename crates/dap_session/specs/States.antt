@@ -1,5 +1,5 @@
 -- A debugger's session: a board, and what the editor asked for so far.
-use Rattle.std.specs.Prelude.{Bool, true, false, not, ◌&&◌, Option, None, option_map}
+use Rattle.std.specs.Prelude.{Bool, true, false, not, ◌&&◌, Option, Some, None, option_map}
 use Rattle.lab_core.specs.declared.run_state.RunState.{RunState}
 use Rattle.lab_core.specs.declared.run_state.RunState.TheVariants.{NoRun, Running, Stopped}
 use Rattle.lab_core.specs.Board.{Board, opening}
@@ -32,6 +32,7 @@ session_before_requests = record {
     points = no_points;
     filters = no_filters;
     waits = false;
+    has_asked = false;
     has_ended = false;
   };
 }
@@ -51,6 +52,12 @@ with_filters filters s = record s { settings = record s.settings { filters = fil
 abbrev pub with_waits : Bool → SessionState → SessionState
 with_waits waits s = record s { settings = record s.settings { waits = waits } }
 
+-- A run that waits is tried again. Once a line is typed, the program hasn't asked for the next one.
+abbrev pub after_answer : Bool → SessionState → SessionState
+after_answer is_typed s = record s {
+  settings = record s.settings { waits = false; has_asked = not is_typed && s.settings.has_asked };
+}
+
 -- ---- the program
 
 -- the program is over, if one was launched
@@ -63,6 +70,11 @@ program_over s = record s { settings = over s.settings }
 -- where the run is held at its end the program goes on
 abbrev pub program_released : SessionState → SessionState
 program_released s = with_program (option_map released_program s.settings.program) s
+
+-- a watch may be a line of the prompt
+abbrev pub has_watch_commands : Option Program → Bool
+has_watch_commands None = false
+has_watch_commands (Some p) = p.launch.has_watch_commands
 
 -- ---- the run
 

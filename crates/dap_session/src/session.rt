@@ -22,6 +22,7 @@ use crate::settings::{NO_EVENTS, SessionSettings};
 use base_text::sequence::Sequence;
 use dap_editor::message::Message;
 use dap_editor::request::{EditorCommand, EditorRequest, RequestContent};
+use dap_inputs::inputs::ends_question;
 use dap_launch::file::FileText;
 use dap_launch::life::NO_FILTERS;
 use dap_launch::reply::{Reply, refuse};
@@ -83,6 +84,7 @@ impl Session {
                 points,
                 filters: NO_FILTERS,
                 waits: false,
+                has_asked: false,
                 has_ended: false,
             },
         })
@@ -122,8 +124,18 @@ impl Session {
         ensures { TellsAs (λ s. told_in caller (turn asked.now file.now s)) self.old result self.new }
     {
         let messages = self.answer_unless(alloc, caller, asked, file)?;
-        self.settings.waits = false;
+        self.note_answer(ends_question(asked));
         Ok(messages)
+    }
+
+    fn note_answer(&mut self, is_typed: bool)
+        ensures { (s : SessionState) → RepresentsSession self.old s
+            → RepresentsSession self.new (states.after_answer is_typed s) }
+    {
+        self.settings.waits = false;
+        if is_typed {
+            self.settings.has_asked = false;
+        }
     }
 
     // Answers a request, or refuses it if there is an objection.
@@ -224,6 +236,17 @@ impl Session {
                 Some(program.launch.program.as_str())
             }
             _ => None,
+        }
+    }
+
+    /// Whether a watch may be a line of the prompt.
+    pub fn has_watch_commands(&self) -> bool
+        ensures { (s : SessionState) → RepresentsSession self.now s
+            → result ≡ states.has_watch_commands s.settings.program }
+    {
+        match &self.settings.program {
+            None => false,
+            Some(program) => program.launch.has_watch_commands,
         }
     }
 

@@ -10,7 +10,7 @@ pub const NO_EVENTS: SupportedEvents = SupportedEvents {
     memory: false,
 };
 
-/// What an editor asked for so far, and whether its run waits.
+/// What an editor asked for so far, whether its run waits, and whether the program asked for a line.
 pub struct SessionSettings {
     pub is_initialized: bool,
     pub is_configured: bool,
@@ -21,6 +21,8 @@ pub struct SessionSettings {
     pub filters: ExceptionFilters,
     /// The last slice ended where the run waits for a button, and no request has come since.
     pub waits: bool,
+    /// The program asked for a line, and none was typed since.
+    pub has_asked: bool,
     /// A `disconnect` was answered.
     pub has_ended: bool,
 }
@@ -36,6 +38,7 @@ impl Drop for SessionSettings {
             points: _,
             filters: _,
             waits: _,
+            has_asked: _,
             has_ended: _,
         } = self;
     }

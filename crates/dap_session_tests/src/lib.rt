@@ -7,6 +7,8 @@
 #[cfg(test)]
 mod plays;
 #[cfg(test)]
+mod points;
+#[cfg(test)]
 mod rows;
 #[cfg(test)]
 mod travel;

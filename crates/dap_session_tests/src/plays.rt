@@ -10,6 +10,7 @@ continue
 initialize
   1 "initialize" true {"exceptionBreakpointFilters":[{"default":true,"filter":"undefined",
     "label":"Undefined opcodes"},{"default":false,"filter":"halt","label":"HLT"}],
+    "supportsBreakpointLocationsRequest":true,
     "supportsConfigurationDoneRequest":true,"supportsDisassembleRequest":true,
     "supportsEvaluateForHovers":true,"supportsExceptionInfoRequest":true,
     "supportsFunctionBreakpoints":true,"supportsGotoTargetsRequest":true,
@@ -19,16 +20,20 @@ initialize
 initialize
   2 "initialize" false "initialized already"
 setBreakpoints {"source":{"path":"count.asm"},"breakpoints":[{"line":6},{"line":99}]}
-  3 "setBreakpoints" true {"breakpoints":[{"id":257,"line":6,"verified":false},{"id":258,"line":99,
-    "verified":false}]}
+  3 "setBreakpoints" true {"breakpoints":[
+    {"id":257,"line":6,"message":"nothing is launched yet","verified":false},
+    {"id":258,"line":99,"message":"nothing is launched yet","verified":false}]}
 setFunctionBreakpoints {"breakpoints":[{"name":"second"}]}
-  4 "setFunctionBreakpoints" true {"breakpoints":[{"id":1,"verified":false}]}
+  4 "setFunctionBreakpoints" true {"breakpoints":[
+    {"id":1,"message":"nothing is launched yet","verified":false}]}
 launch {"program":"count.asm"}
   5 "launch" false "no file"
 launch {"program":"count.asm"} < letters
   6 "launch" true {}
   "initialized"
   "breakpoint" {"breakpoint":{"id":257,"line":6,"verified":true},"reason":"changed"}
+  "breakpoint" {"breakpoint":{"id":258,"line":99,"message":"no code at or below line 99",
+    "verified":false},"reason":"changed"}
   "breakpoint" {"breakpoint":{"id":1,"line":5,"verified":true},"reason":"changed"}
 launch {"program":"count.asm"} < letters
   7 "launch" false "launched already"
@@ -52,6 +57,7 @@ const STEPS: &str = r#"
 initialize
   0 "initialize" true {"exceptionBreakpointFilters":[{"default":true,"filter":"undefined",
     "label":"Undefined opcodes"},{"default":false,"filter":"halt","label":"HLT"}],
+    "supportsBreakpointLocationsRequest":true,
     "supportsConfigurationDoneRequest":true,"supportsDisassembleRequest":true,
     "supportsEvaluateForHovers":true,"supportsExceptionInfoRequest":true,
     "supportsFunctionBreakpoints":true,"supportsGotoTargetsRequest":true,
@@ -109,6 +115,7 @@ const ENDS: &str = r#"
 initialize
   0 "initialize" true {"exceptionBreakpointFilters":[{"default":true,"filter":"undefined",
     "label":"Undefined opcodes"},{"default":false,"filter":"halt","label":"HLT"}],
+    "supportsBreakpointLocationsRequest":true,
     "supportsConfigurationDoneRequest":true,"supportsDisassembleRequest":true,
     "supportsEvaluateForHovers":true,"supportsExceptionInfoRequest":true,
     "supportsFunctionBreakpoints":true,"supportsGotoTargetsRequest":true,
@@ -162,6 +169,7 @@ const HELD: &str = r#"
 initialize
   0 "initialize" true {"exceptionBreakpointFilters":[{"default":true,"filter":"undefined",
     "label":"Undefined opcodes"},{"default":false,"filter":"halt","label":"HLT"}],
+    "supportsBreakpointLocationsRequest":true,
     "supportsConfigurationDoneRequest":true,"supportsDisassembleRequest":true,
     "supportsEvaluateForHovers":true,"supportsExceptionInfoRequest":true,
     "supportsFunctionBreakpoints":true,"supportsGotoTargetsRequest":true,
@@ -232,6 +240,7 @@ const UNHELD: &str = r#"
 initialize
   0 "initialize" true {"exceptionBreakpointFilters":[{"default":true,"filter":"undefined",
     "label":"Undefined opcodes"},{"default":false,"filter":"halt","label":"HLT"}],
+    "supportsBreakpointLocationsRequest":true,
     "supportsConfigurationDoneRequest":true,"supportsDisassembleRequest":true,
     "supportsEvaluateForHovers":true,"supportsExceptionInfoRequest":true,
     "supportsFunctionBreakpoints":true,"supportsGotoTargetsRequest":true,
@@ -257,6 +266,7 @@ const CHANGES: &str = r#"
 initialize {"supportsInvalidatedEvent":true,"supportsMemoryEvent":true}
   0 "initialize" true {"exceptionBreakpointFilters":[{"default":true,"filter":"undefined",
     "label":"Undefined opcodes"},{"default":false,"filter":"halt","label":"HLT"}],
+    "supportsBreakpointLocationsRequest":true,
     "supportsConfigurationDoneRequest":true,"supportsDisassembleRequest":true,
     "supportsEvaluateForHovers":true,"supportsExceptionInfoRequest":true,
     "supportsFunctionBreakpoints":true,"supportsGotoTargetsRequest":true,
@@ -317,6 +327,7 @@ continue
 initialize {"supportsInvalidatedEvent":false,"supportsMemoryEvent":true}
   2 "initialize" true {"exceptionBreakpointFilters":[{"default":true,"filter":"undefined",
     "label":"Undefined opcodes"},{"default":false,"filter":"halt","label":"HLT"}],
+    "supportsBreakpointLocationsRequest":true,
     "supportsConfigurationDoneRequest":true,"supportsDisassembleRequest":true,
     "supportsEvaluateForHovers":true,"supportsExceptionInfoRequest":true,
     "supportsFunctionBreakpoints":true,"supportsGotoTargetsRequest":true,

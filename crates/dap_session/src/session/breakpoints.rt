@@ -1,20 +1,22 @@
 //! Breakpoints.
 ghost use Rattle.std.specs.Prelude.{◌≡◌, ◌≤◌, length, true, IfOk, OnOk, OnErr, option_map};
-ghost use Rattle.dap_session.specs.Breakpoints.{program_at, line_count_of, lines_armed};
+ghost use Rattle.dap_session.specs.Breakpoints.{program_at, lines_armed, labels_armed, locating};
 ghost use Rattle.dap_session.specs.Breakpoints.{lines_set, setting_lines, setting_functions};
-ghost use Rattle.dap_session.specs.States.{SessionState, with_points};
+ghost use Rattle.dap_session.specs.States.{SessionState, with_board, with_points};
 ghost use Rattle.dap_points.specs.Points.{number_of, has_place, with_lines};
-ghost use Rattle.dap_points.specs.Placed.{line_points};
-ghost use Rattle.dap_session.specs.Represents.{RepresentsSession, RepliesAs, LabelsPlaced};
+ghost use Rattle.dap_launch.specs.Points.{points_where, labels_where};
+ghost use Rattle.dap_session.specs.Represents.{RepresentsSession, RepliesAs};
 
 use crate::session::Session;
 use base_text::sequence::Sequence;
 use base_text::text::Text;
 use dap_editor::message::{EditorBody, PlacedBreakpoint};
-use dap_launch::program::Program;
+use dap_editor::request::{FunctionBreakpoint, LineBreakpoint};
+use dap_launch::points::{copy_functions, labels_where, points_where};
+use dap_launch::program::{Program, arm_with};
 use dap_launch::reply::{Reply, succeed};
-use dap_points::placed::line_points;
-use dap_program::breakpoints::{arm, labels_behind};
+use dap_points::points::SourceLines;
+use dap_program::code_lines::locations;
 use dap_program::messages::FollowUp;
 use std::alloc::{AllocError, Global};
 
@@ -28,26 +30,12 @@ pub(super) fn program_at<'a>(path: &str, program: &'a Option<Program>) -> Option
     }
 }
 
-fn copy_text(text: &Text) -> Result<Text, AllocError>
-    ensures { IfOk result (λ copy. copy ≡ text.now) }
+fn copy_source(path: &Text, lines: &Sequence<LineBreakpoint>) -> Result<SourceLines, AllocError>
+    ensures { IfOk result (λ copy. copy ≡ record { path = path.now; lines = lines.now }) }
 {
-    text.clone()
-}
-
-fn copy_lines(lines: &Sequence<u32>) -> Result<Sequence<u32>, AllocError>
-    ensures { IfOk result (λ copy. copy ≡ lines.now) }
-{
-    lines.clone()
-}
-
-// The number of lines of the program, if it is the one of this path.
-fn line_count_at(path: &str, program: &Option<Program>) -> usize
-    ensures { result ≡ line_count_of (program_at path.now program.now) }
-{
-    match program_at(path, program) {
-        None => 0,
-        Some(program) => program.line_count,
-    }
+    let path = path.clone()?;
+    let lines = lines.clone()?;
+    Ok(SourceLines { path, lines })
 }
 
 impl Session {
@@ -56,85 +44,67 @@ impl Session {
         &mut self,
         alloc: Global,
         path: &Text,
-        lines: &Sequence<u32>,
+        lines: &Sequence<LineBreakpoint>,
     ) -> Result<Reply, AllocError>
-        requires { length lines.now ≤ 256 }
         ensures { RepliesAs (setting_lines path.now lines.now) self.old result self.new }
     {
         if !self.settings.points.has_place(path.as_str()) {
             return self.refuse_with(alloc, "too many sources have breakpoints");
         }
-        self.place_lines(alloc, path, lines)
+        let source = copy_source(path, lines)?;
+        self.place_lines(alloc, source)
     }
 
-    fn place_lines(
-        &mut self,
-        alloc: Global,
-        path: &Text,
-        lines: &Sequence<u32>,
-    ) -> Result<Reply, AllocError>
-        requires few { length lines.now ≤ 256 }
-        requires place { has_place path.now self.old.settings.points.lists ≡ true }
-        ensures { RepliesAs (λ s. lines_set (program_at path.now s.settings.program) path.now lines.now s)
-            self.old result self.new }
+    fn place_lines(&mut self, alloc: Global, source: SourceLines) -> Result<Reply, AllocError>
+        requires { has_place source.path self.old.settings.points.lists ≡ true }
+        ensures { RepliesAs (lines_set source) self.old result self.new }
     {
-        let kept_path = copy_text(path)?;
-        let kept_lines = copy_lines(lines)?;
-        let points = self.line_points(alloc, path, lines)?;
-        self.arm_lines(alloc, path, lines)?;
-        self.keep_lines(kept_path, kept_lines);
+        let points = self.line_points(alloc, &source)?;
+        self.arm_lines(alloc, &source)?;
+        self.keep_lines(source);
         Ok(succeed(EditorBody::Breakpoints(points), FollowUp::Nothing))
     }
 
-    // The breakpoints on these lines of a source.
     fn line_points(
         &self,
         alloc: Global,
-        path: &Text,
-        lines: &Sequence<u32>,
+        source: &SourceLines,
     ) -> Result<Sequence<PlacedBreakpoint>, AllocError>
-        requires { length lines.now ≤ 256 }
         ensures { (s : SessionState) → RepresentsSession self.now s → IfOk result (λ points. points
-            ≡ line_points (number_of path.now s.settings.points.lists)
-            (line_count_of (program_at path.now s.settings.program)) 0 lines.now) }
+            ≡ points_where s.settings.program s.board
+            (number_of source.now.path s.settings.points.lists) source.now) }
     {
-        line_points(
-            alloc,
-            self.settings.points.number_of(path.as_str()),
-            line_count_at(path.as_str(), &self.settings.program),
-            lines.as_slice(),
-        )
+        let number = self.settings.points.number_of(source.path.as_str());
+        points_where(alloc, &self.settings.program, &self.lab, number, source)
     }
 
-    // Makes the board stop at these lines, if the program is the one of this path.
-    fn arm_lines(
-        &mut self,
-        alloc: Global,
-        path: &Text,
-        lines: &Sequence<u32>,
-    ) -> Result<(), AllocError>
+    // Makes the board stop at these lines, if the program is this source.
+    fn arm_lines(&mut self, alloc: Global, source: &SourceLines) -> Result<(), AllocError>
         ensures ok { (s : SessionState) → RepresentsSession self.old s
-            → OnOk result (RepresentsSession self.new (lines_armed path.now lines.now s)) }
+            → OnOk result (RepresentsSession self.new (lines_armed source.now s)) }
         ensures rest { self.new ≡ record self.old { lab = self.new.lab } }
         ensures err { OnErr result (self.new ≡ self.old) }
     {
-        match program_at(path.as_str(), &self.settings.program) {
+        let path = source.path.as_str();
+        match program_at(path, &self.settings.program) {
             None => Ok(()),
-            Some(program) => arm(
+            Some(program) => arm_with(
                 alloc,
                 &mut self.lab,
-                &program.launch.program,
-                lines.as_slice(),
+                program,
+                self.settings.points.number_of(path),
+                source.used(),
                 self.settings.points.functions(),
             ),
         }
     }
 
-    fn keep_lines(&mut self, path: Text, lines: Sequence<u32>)
-        requires { has_place path self.old.settings.points.lists ≡ true }
-        ensures { (s : SessionState) → RepresentsSession self.old s
-            → RepresentsSession self.new (with_points (with_lines path lines s.settings.points) s) }
+    fn keep_lines(&mut self, source: SourceLines)
+        requires { has_place source.path self.old.settings.points.lists ≡ true }
+        ensures { (s : SessionState) → RepresentsSession self.old s → RepresentsSession self.new
+            (with_points (with_lines source.path source.lines s.settings.points) s) }
     {
+        let SourceLines { path, lines } = source;
         self.settings.points.set_lines(path, lines);
     }
 
@@ -142,37 +112,82 @@ impl Session {
     pub(super) fn set_functions(
         &mut self,
         alloc: Global,
-        names: &Sequence<Text>,
+        functions: &Sequence<FunctionBreakpoint>,
     ) -> Result<Reply, AllocError>
-        requires { length names.now ≤ 256 }
-        ensures { RepliesAs (setting_functions names.now) self.old result self.new }
+        requires { length functions.now ≤ 256 }
+        ensures { RepliesAs (setting_functions functions.now) self.old result self.new }
     {
-        let kept = names.clone()?;
-        let points = self.place_labels(alloc, names.as_slice())?;
+        let kept = copy_functions(alloc, functions.as_slice())?;
+        let points = self.label_points(alloc, functions.as_slice())?;
+        self.arm_labels(alloc, functions.as_slice())?;
         self.settings.points.set_functions(kept);
         Ok(succeed(EditorBody::Breakpoints(points), FollowUp::Nothing))
     }
 
-    // The breakpoints at labels. The program's board stops at them from now on.
-    fn place_labels(
+    fn label_points(
+        &self,
+        alloc: Global,
+        functions: &[FunctionBreakpoint],
+    ) -> Result<Sequence<PlacedBreakpoint>, AllocError>
+        requires { length functions.now ≤ 256 }
+        ensures { (s : SessionState) → RepresentsSession self.now s → IfOk result (λ points. points
+            ≡ labels_where s.settings.program s.settings.points functions.now s.board) }
+    {
+        let settings = &self.settings;
+        labels_where(
+            alloc,
+            &settings.program,
+            &settings.points,
+            functions,
+            &self.lab,
+        )
+    }
+
+    // Makes the program's board stop at these labels.
+    fn arm_labels(
         &mut self,
         alloc: Global,
-        names: &[Text],
-    ) -> Result<Sequence<PlacedBreakpoint>, AllocError>
-        requires { length names.now ≤ 256 }
-        ensures ok { (s : SessionState) → RepresentsSession self.old s
-            → IfOk result (λ points. LabelsPlaced names.now s points self.new) }
+        functions: &[FunctionBreakpoint],
+    ) -> Result<(), AllocError>
+        requires { length functions.now ≤ 256 }
+        ensures ok { (s : SessionState) → RepresentsSession self.old s → OnOk result
+            (RepresentsSession self.new (with_board
+            (labels_armed s.settings.program functions.now s.settings.points s.board) s)) }
+        ensures rest { self.new ≡ record self.old { lab = self.new.lab } }
         ensures err { OnErr result (self.new ≡ self.old) }
     {
         match &self.settings.program {
-            None => labels_behind(alloc, &self.lab, &[], names),
+            None => Ok(()),
             Some(program) => {
-                let path = &program.launch.program;
-                let lines = self.settings.points.lines_at(path.as_str());
-                let points = labels_behind(alloc, &self.lab, lines, names)?;
-                arm(alloc, &mut self.lab, path, lines, names)?;
-                Ok(points)
+                let path = program.launch.program.as_str();
+                let points = &self.settings.points;
+                let number = points.number_of(path);
+                arm_with(
+                    alloc,
+                    &mut self.lab,
+                    program,
+                    number,
+                    points.lines_at(path),
+                    functions,
+                )
             }
         }
+    }
+
+    // The lines between two lines of a source that can have breakpoints.
+    pub(super) fn locate(
+        &self,
+        alloc: Global,
+        path: &Text,
+        first: u32,
+        last: u32,
+    ) -> Result<Reply, AllocError>
+        ensures { RepliesAs (locating path.now first last) self.now result self.now }
+    {
+        let lines = match program_at(path.as_str(), &self.settings.program) {
+            None => Sequence::new(alloc),
+            Some(_) => locations(alloc, &self.lab, first, last)?,
+        };
+        Ok(succeed(EditorBody::Locations(lines), FollowUp::Nothing))
     }
 }

@@ -47,8 +47,8 @@ impl Session {
         ensures { RepliesAs (evaluating expression.now context) self.old result self.new }
     {
         match context {
-            EvaluateContext::Other => self.look(alloc, expression),
             EvaluateContext::Repl => self.evaluate_line(alloc, expression),
+            EvaluateContext::Watch | EvaluateContext::Other => self.look(alloc, expression),
         }
     }
 

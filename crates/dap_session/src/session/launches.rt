@@ -15,7 +15,8 @@ use base_text::text::Text;
 use dap_editor::message::Message;
 use dap_editor::request::Launch;
 use dap_launch::file::{FileText, text_in};
-use dap_launch::opening::{Opening, begun_follow, loaded_messages};
+use dap_launch::opening::{Opening, begun_follow};
+use dap_launch::points::all_changed;
 use dap_launch::program::{
     LoadedProgram, Phase, Program, arm_program, begin_if, begin_program, copy_launch,
 };
@@ -23,8 +24,7 @@ use dap_launch::reply::{Reply, accept};
 use dap_program::failure::failure;
 use dap_program::load::{LoadFault, Loaded, load};
 use dap_program::messages::{FollowUp, RequestId};
-use dap_program::opening::LoadReason;
-use lab_image::lines::line_count;
+use dap_program::opening::{LoadReason, opening_messages};
 use std::alloc::{AllocError, Global};
 
 impl Session {
@@ -104,7 +104,6 @@ impl Session {
                 let program = Program {
                     launch,
                     start,
-                    line_count: line_count(text.as_str()),
                     phase: Phase::Loaded,
                 };
                 self.install(alloc, opening, LoadedProgram { program, lab })
@@ -137,8 +136,17 @@ impl Session {
             → IfOk result (λ messages. messages
             ≡ told_by opening.caller (installing opening.cause loaded.now.program b s)) }
     {
-        let follow = self.started_follow(opening.cause, &loaded.program);
-        loaded_messages(alloc, opening, loaded, &self.settings.points, follow)
+        let Opening { caller, cause } = opening;
+        let settings = &self.settings;
+        let changed = all_changed(
+            alloc,
+            &settings.program,
+            &self.lab,
+            loaded,
+            &settings.points,
+        )?;
+        let follow = self.started_follow(cause, &loaded.program);
+        opening_messages(alloc, caller, cause, changed, follow)
     }
 
     // Puts a loaded program in the place of what was on the board.

@@ -9,7 +9,7 @@ ghost use Rattle.dap_session.specs.Turns.{change_follow};
 ghost use Rattle.dap_session.specs.Requests.{objection, follow_of, performing, resuming, finish_done};
 ghost use Rattle.dap_session.specs.Requests.{resetting};
 ghost use Rattle.dap_session.specs.Requests.{terminating, initializing, configuring, disconnecting};
-ghost use Rattle.dap_session.specs.Requests.{commanding, editing, replying, end_follow};
+ghost use Rattle.dap_session.specs.Requests.{commanding, editing_points, editing, replying, end_follow};
 ghost use Rattle.dap_session.specs.Represents.{RepresentsSession, RepliesAs, Replies};
 
 use crate::session::Session;
@@ -184,7 +184,7 @@ impl Session {
             ),
             DapCommand::Disconnect => Ok(self.disconnect()),
             DapCommand::ConfigurationDone => self.configure(alloc),
-            DapCommand::SetBreakpoints { path, lines } => self.set_lines(alloc, path, lines),
+            DapCommand::SetBreakpoints { .. } => self.refuse_with(alloc, "unknown command"),
             DapCommand::BoardReset => self.reset(alloc),
             DapCommand::Continue | DapCommand::Step { .. } => self.resume(alloc, command),
             _ => self.perform_by_hand(alloc, command),
@@ -198,7 +198,6 @@ impl Session {
         match command {
             EditorCommand::Initialize(supported) => self.initialize(alloc, *supported),
             EditorCommand::Terminate => Ok(self.terminate()),
-            EditorCommand::SetFunctionBreakpoints(names) => self.set_functions(alloc, names),
             EditorCommand::SetExceptionBreakpoints(filters) => Ok(self.set_filters(*filters)),
             EditorCommand::ExceptionInfo => self.explain(alloc),
             EditorCommand::Evaluate {
@@ -206,6 +205,22 @@ impl Session {
                 context,
             } => self.evaluate(alloc, expression.as_str(), *context),
             EditorCommand::LoadedSources => self.list_sources(alloc),
+            _ => self.edit_points(alloc, command),
+        }
+    }
+
+    fn edit_points(&mut self, alloc: Global, command: &EditorCommand) -> Result<Reply, AllocError>
+        requires { is_bounded (RequestContent.Editor command.now) ≡ true }
+        ensures { RepliesAs (editing_points command.now) self.old result self.new }
+    {
+        match command {
+            EditorCommand::SetBreakpoints { path, lines } => self.set_lines(alloc, path, lines),
+            EditorCommand::SetFunctionBreakpoints(functions) => {
+                self.set_functions(alloc, functions)
+            }
+            EditorCommand::BreakpointLocations { path, first, last } => {
+                self.locate(alloc, path, *first, *last)
+            }
             _ => self.edit_memory(alloc, command),
         }
     }

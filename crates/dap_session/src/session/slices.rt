@@ -1,7 +1,7 @@
 //! Slices of the run.
 ghost use Rattle.std.specs.Prelude.{◌≡◌, ◌≤◌, IfOk, OnErr};
 ghost use Rattle.dap_session.specs.States.{SessionState};
-ghost use Rattle.dap_session.specs.Slices.{slice_told, settings_after};
+ghost use Rattle.dap_session.specs.Slices.{slice_told, settings_after, with_question};
 ghost use Rattle.dap_session.specs.Represents.{RepresentsSession, TellsAs, WantsSlice, SlicesWithin};
 
 use crate::session::{RunSlice, Session};
@@ -37,14 +37,25 @@ impl Session {
         ensures err { OnErr result (self.new ≡ self.old) }
     {
         let held = held_ends(self.settings.filters, &self.settings.program);
-        let slice = make_slice(alloc, &mut self.lab, limit, held)?;
+        let slice = make_slice(alloc, &mut self.lab, limit, held, self.settings.has_asked)?;
         let Slice {
             messages,
             executed,
+            asks_line,
             outcome,
         } = slice;
+        self.note_question(asks_line);
         self.leave(outcome);
         Ok(RunSlice { messages, executed })
+    }
+
+    // Notes in the settings that the program asked for a line, if it did.
+    fn note_question(&mut self, asks_line: bool)
+        ensures { self.new ≡ record self.old { settings = with_question asks_line self.old.settings } }
+    {
+        if asks_line {
+            self.settings.has_asked = true;
+        }
     }
 
     // Notes in the settings how a slice ended.

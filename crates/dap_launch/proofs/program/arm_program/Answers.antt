@@ -1,18 +1,22 @@
 use Rattle.std.proofs.Common.{◌≡◌, ◌∙◌, ℕ, List, take, ap, subst, OnOk}
 use Rattle.lab_core.specs.Labs.{RepresentsBoard}
-use Rattle.dap_points.specs.Points.{lines_at}
-use Rattle.dap_program.specs.Breakpoints.{board_armed_at}
+use Rattle.dap_editor.specs.declared.request.LineBreakpoint.{LineBreakpoint}
+use Rattle.dap_editor.specs.declared.request.FunctionBreakpoint.{FunctionBreakpoint}
+use Rattle.dap_points.specs.Points.{number_of, lines_at}
+use Rattle.dap_launch.specs.Programs.{armed_with}
 use Rattle.dap_launch.proofs.program.arm_program.Goals as goal
 
-pub returns : goal.returns
-returns c = λ b represents.
+pub returns-clause-ok : goal.returns-clause-ok
+returns-clause-ok c = λ b represents.
     let program = c.args.program.now in
     let points = c.args.points.now in
+    let number : c.number_of.result ≡ number_of program.launch.program points.lists =
+    c.number_of.ensures.number ∙ ap (λ path. number_of path points.lists) c.as_str-path.ensures in
     let lines : c.lines_at.result.now ≡ lines_at program.launch.program points.lists =
-    c.lines_at.ensures.lines ∙ ap (λ path. lines_at path points.lists) c.as_str.ensures in
-    let P : List ℕ → List (List ℕ) → Type 0 =
-    λ ls names. OnOk c.arm.result (RepresentsBoard c.arm.new.lab
-    (board_armed_at program.launch.program ls names b)) in
-    subst (λ ls. P ls (take 256 points.functions)) lines
-    (subst (λ names. P c.lines_at.result.now names) c.functions.ensures.labels
-    (c.arm.ensures.ok b represents))
+    c.lines_at.ensures.lines ∙ ap (λ path. lines_at path points.lists) c.as_str-path.ensures in
+    let P : ℕ → List LineBreakpoint → List FunctionBreakpoint → Type 0 =
+    λ n ls fs. OnOk c.arm_with.result (RepresentsBoard c.arm_with.new.lab (armed_with program n ls fs b)) in
+    subst (λ n. P n (lines_at program.launch.program points.lists) (take 256 points.functions)) number
+    (subst (λ ls. P c.number_of.result ls (take 256 points.functions)) lines
+    (subst (λ fs. P c.number_of.result c.lines_at.result.now fs) c.functions.ensures.labels
+    (c.arm_with.ensures.ok b represents)))

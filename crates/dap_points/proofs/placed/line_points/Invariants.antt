@@ -5,7 +5,7 @@ use Rattle.dap_points.proofs.placed.line_points.Given as goal
 -- those so far, and those on the lines that are left
 abbrev pub invariant-loop-line : goal.invariant-loop-line
 invariant-loop-line l = record {
-  placed : l.points ++ line_points l.number l.count l.index l.left ≡ line_points l.number l.count 0 l.lines;
+  placed : l.points ++ line_points l.number l.index l.left ≡ line_points l.number 0 l.lines;
   few : l.index + length l.left ≤ 256;
 }
 

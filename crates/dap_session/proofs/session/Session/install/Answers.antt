@@ -13,7 +13,7 @@ returns-clause-installed c = λ s b represents on.
     let p = c.args.loaded.program in
     let B : SessionSettings → Type 0 =
     λ t. RepresentsBoard c.arm_program.new.lab (program_board p t.points b) in
-    let armed = subst B viewed.settings (c.in_ok-arm_program.ensures b on) in
+    let armed = subst B viewed.settings (c.in_ok-arm_program.ensures.ok b on) in
     let Q : SessionSettings → Type 0 =
     λ t. RepresentsBoard c.begin_if.new.loaded.lab
     (board_if t.is_configured p (program_board p s.settings.points b)) in

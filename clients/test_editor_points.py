@@ -1,0 +1,67 @@
+"""Breakpoints that move to code, that can't be met, or that a restart changes."""
+from editor import Session
+
+# The line of the routine of examples/count.asm.
+SHOW = 10
+
+
+class Points(Session):
+    def test_on_a_line_without_code_it_moves(self):
+        editor, path = self.editor(), self.program("SIZE EQU 2\nMAIN:\n ; one\n NOP\n NOP\n HLT\n END MAIN\n")
+        editor.launch(path)
+        given = [{"line": line} for line in (1, 3, 5, 7, 0)]
+        shown = editor.do("setBreakpoints", source={"path": path}, breakpoints=given)["breakpoints"]
+        wanted = [(4, True, "moved from line 1"), (4, True, "moved from line 3"), (5, True, None),
+                  (7, False, "no code at or below line 7"), (4, True, "moved from line 0")]
+        self.assertEqual([(it["line"], it["verified"], it.get("message")) for it in shown], wanted)
+        where = {"source": {"path": path}}
+        for first, last, lines in ((0, 9, [4, 5, 6]), (5, 5, [5]), (1, 3, []), (6, 4, [])):
+            found = editor.do("breakpointLocations", **where, line=first, endLine=last)["breakpoints"]
+            self.assertEqual(found, [{"line": line} for line in lines])
+        self.assertEqual(editor.do("breakpointLocations", **where, line=6), {"breakpoints": [{"line": 6}]})
+        self.assertEqual(editor.do("breakpointLocations", source={"path": path + "x"}, line=4), {"breakpoints": []})
+        editor.do("configurationDone")
+        for line in (4, 5):
+            self.assertEqual((editor.stop(), editor.place()), ("breakpoint", ("main", line)))
+            editor.do("continue", threadId=1)
+            self.assertEqual(editor.event()[0], "continued")
+
+    def test_with_a_condition_it_is_not_verified(self):
+        editor, path = self.editor(), self.count()
+        editor.launch(path)
+        given = [{"line": SHOW, "condition": "A == 1"}, {"line": 4, "condition": ""}, {"line": 5, "hitCondition": "2"},
+                 {"line": 6, "logMessage": "x", "hitCondition": None}, {"line": 7, "condition": None}]
+        shown = editor.do("setBreakpoints", source={"path": path}, breakpoints=given)["breakpoints"]
+        self.assertEqual([it["verified"] for it in shown], [False, True, False, False, True])
+        reason = "conditions, hit counts and log messages are not supported"
+        self.assertEqual([it.get("message") for it in shown], [reason, None, reason, reason, None])
+        given = [{"name": "SHOW", "condition": "1"}, {"name": "NEXT"}]
+        shown = editor.do("setFunctionBreakpoints", breakpoints=given)["breakpoints"]
+        self.assertEqual([(it["line"], it["verified"], it.get("message")) for it in shown], [(SHOW, False, reason), (4, True, None)])
+
+    def test_after_a_restart_those_that_are_not_what_they_were_are_told(self):
+        editor, path = self.editor(), self.program("MAIN: NOP\n NOP\n HLT\n END MAIN\n", "again.asm")
+        editor.launch(path, stopOnEntry=True)
+        lines = editor.do("setBreakpoints", source={"path": path}, breakpoints=[{"line": it} for it in (1, 2, 3)])["breakpoints"]
+        labels = editor.do("setFunctionBreakpoints", breakpoints=[{"name": "MAIN"}, {"name": "MORE"}])["breakpoints"]
+        self.assertEqual(labels[1]["message"], "the program has no such label")
+        editor.do("configurationDone")
+        self.assertEqual(editor.stop(), "entry")
+        self.program("MAIN: NOP\n; none\nMORE: HLT\n END MAIN\n", "again.asm")
+        editor.do("restart")
+        self.changes(editor, {"id": lines[1]["id"], "line": 3, "message": "moved from line 2", "verified": True})
+        self.changes(editor, {"id": labels[1]["id"], "line": 3, "verified": True})
+        self.assertEqual(editor.stop(), "entry")
+        self.program("MAIN: NOP\n END MAIN\n", "again.asm")
+        editor.do("restart")
+        for place, line in ((1, 2), (2, 3)):
+            nowhere = {"line": line, "message": f"no code at or below line {line}", "verified": False}
+            self.changes(editor, {"id": lines[place]["id"]} | nowhere)
+        self.changes(editor, {"id": labels[1]["id"], "message": "the program has no such label", "verified": False})
+        self.assertEqual(editor.stop(), "entry")
+
+    def test_a_name_of_equ_is_no_label(self):
+        editor = self.editor()
+        editor.launch(self.program("MAIN: NOP\nHERE EQU MAIN\nTHERE SET MAIN\n HLT\n END MAIN\n"))
+        shown = editor.do("setFunctionBreakpoints", breakpoints=[{"name": it} for it in ("main", "HERE", "THERE")])["breakpoints"]
+        self.assertEqual([(it.get("line"), it["verified"]) for it in shown], [(1, True), (None, False), (None, False)])

@@ -1,0 +1,47 @@
+-- The breakpoints of all sources, as an editor is told of them (Debug Adapter Protocol, the event
+-- `breakpoint`).
+use Rattle.std.specs.Prelude.{ℕ, ◌+◌, List, [], ◌∷◌, ◌++◌, take, Option, Some, None, if◌then◌else◌}
+use Rattle.std.specs.Str.{bytes_eq}
+use Rattle.lab_core.specs.Board.{Board}
+use Rattle.dap_editor.specs.declared.message.BreakpointNote.TheVariants.{NotLaunched, OtherProgram}
+use Rattle.dap_editor.specs.declared.message.PlacedBreakpoint.{PlacedBreakpoint}
+use Rattle.dap_editor.specs.declared.request.FunctionBreakpoint.{FunctionBreakpoint}
+use Rattle.dap_points.specs.declared.points.SourceLines.{SourceLines}
+use Rattle.dap_points.specs.Points.{WantedBreakpointsState}
+use Rattle.dap_points.specs.Placed.{other_points, unlaunched_labels}
+use Rattle.dap_points.specs.Changes.{changed_points}
+use Rattle.dap_program.specs.Breakpoints.{lines_on}
+use Rattle.dap_launch.specs.declared.program.Program.{Program}
+use Rattle.dap_launch.specs.Programs.{labels_for, program_labels}
+
+-- those of the source with this number, beside a program
+abbrev pub points_for : Program → Board → ℕ → SourceLines → List PlacedBreakpoint
+points_for p b number l =
+    if bytes_eq p.launch.program l.path then lines_on b number (take 256 l.lines)
+    else other_points (OtherProgram p.launch.program) number 0 (take 256 l.lines)
+
+abbrev pub points_where : Option Program → Board → ℕ → SourceLines → List PlacedBreakpoint
+points_where None b number l = other_points NotLaunched number 0 (take 256 l.lines)
+points_where (Some p) b number l = points_for p b number l
+
+-- those at labels
+abbrev pub labels_where : Option Program → WantedBreakpointsState → List FunctionBreakpoint → Board
+    → List PlacedBreakpoint
+labels_where None kept functions b = unlaunched_labels 0 functions
+labels_where (Some p) kept functions b = labels_for p kept functions b
+
+-- ---- when a program takes the place of what was on the board
+
+-- those that aren't what they were, of the sources from this number on
+abbrev pub changed_from : Option Program → Board → Program → Board → ℕ → List SourceLines
+    → List PlacedBreakpoint
+changed_from before old p b number [] = []
+changed_from before old p b number (l ∷ ls) =
+    changed_points (points_where before old number l) (points_for p b number l)
+    ++ changed_from before old p b (number + 1) ls
+
+abbrev pub all_changed : Option Program → Board → Program → WantedBreakpointsState → Board
+    → List PlacedBreakpoint
+all_changed before old p kept b =
+    changed_from before old p b 1 kept.lists
+    ++ changed_points (labels_where before kept (take 256 kept.functions) old) (program_labels p kept b)

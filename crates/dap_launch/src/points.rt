@@ -1,0 +1,186 @@
+//! The breakpoints of all sources, as an editor is told of them.
+ghost use Rattle.std.specs.Prelude.{◌≡◌, ◌≤◌, ◌+◌, ◌++◌, length, take, IfOk, OnOk};
+ghost use Rattle.lab_core.specs.Board.{Board};
+ghost use Rattle.lab_core.specs.Labs.{RepresentsBoard};
+ghost use Rattle.dap_launch.specs.Points.{points_for, points_where, labels_where, changed_from};
+ghost use Rattle.dap_launch.specs.Points.{all_changed};
+ghost use Rattle.dap_points.specs.Changes.{changed_points};
+ghost use Rattle.dap_launch.specs.Programs.{program_labels};
+
+use crate::program::{LoadedProgram, Program, labels_for};
+use base_text::sequence::Sequence;
+use dap_editor::message::{BreakpointNote, PlacedBreakpoint};
+use dap_editor::request::FunctionBreakpoint;
+use dap_points::changes::changed_points;
+use dap_points::placed::{other_points, unlaunched_labels};
+use dap_points::points::{SourceLines, WantedBreakpoints};
+use dap_program::breakpoints::lines_on;
+use lab_core::lab::Lab;
+use std::alloc::{AllocError, Global};
+
+// The breakpoints of the source with this number, beside a program.
+fn points_for(
+    alloc: Global,
+    program: &Program,
+    lab: &Lab,
+    number: u32,
+    source: &SourceLines,
+) -> Result<Sequence<PlacedBreakpoint>, AllocError>
+    requires { number ≤ 1025 }
+    ensures { (b : Board) → RepresentsBoard lab.now b
+        → IfOk result (λ points. points ≡ points_for program.now b number source.now) }
+{
+    let path = &program.launch.program;
+    if path.as_str() == source.path.as_str() {
+        return lines_on(alloc, lab, number, source.used());
+    }
+    let why = BreakpointNote::OtherProgram(path.clone()?);
+    other_points(alloc, &why, number, source.used())
+}
+
+/// The breakpoints of the source with this number, beside the program, if one is launched.
+pub fn points_where(
+    alloc: Global,
+    program: &Option<Program>,
+    lab: &Lab,
+    number: u32,
+    source: &SourceLines,
+) -> Result<Sequence<PlacedBreakpoint>, AllocError>
+    requires { number ≤ 1025 }
+    ensures { (b : Board) → RepresentsBoard lab.now b
+        → IfOk result (λ points. points ≡ points_where program.now b number source.now) }
+{
+    match program {
+        None => other_points(alloc, &BreakpointNote::NotLaunched, number, source.used()),
+        Some(program) => points_for(alloc, program, lab, number, source),
+    }
+}
+
+/// The breakpoints at these labels of the program, if one is launched.
+pub fn labels_where(
+    alloc: Global,
+    program: &Option<Program>,
+    points: &WantedBreakpoints,
+    functions: &[FunctionBreakpoint],
+    lab: &Lab,
+) -> Result<Sequence<PlacedBreakpoint>, AllocError>
+    requires { length functions.now ≤ 256 }
+    ensures { (b : Board) → RepresentsBoard lab.now b
+        → IfOk result (λ labels. labels ≡ labels_where program.now points.now functions.now b) }
+{
+    match program {
+        None => unlaunched_labels(alloc, functions),
+        Some(program) => labels_for(alloc, program, points, functions, lab),
+    }
+}
+
+/// A copy of breakpoints at labels.
+pub fn copy_functions(
+    alloc: Global,
+    functions: &[FunctionBreakpoint],
+) -> Result<Sequence<FunctionBreakpoint>, AllocError>
+    ensures { IfOk result (λ copies. copies ≡ functions.now) }
+{
+    let mut copies = Sequence::new(alloc);
+    for function in functions {
+        let name = function.name.clone()?;
+        copies.push(FunctionBreakpoint {
+            name,
+            is_plain: function.is_plain,
+        })?;
+    }
+    Ok(copies)
+}
+
+// The breakpoints of the source with this number that aren't what they were.
+fn changed_in(
+    alloc: Global,
+    before: &Option<Program>,
+    old: &Lab,
+    loaded: &LoadedProgram,
+    number: u32,
+    source: &SourceLines,
+) -> Result<Sequence<PlacedBreakpoint>, AllocError>
+    requires { number ≤ 1025 }
+    ensures { (o b : Board) → RepresentsBoard old.now o → RepresentsBoard loaded.now.lab b
+        → IfOk result (λ points. points ≡ changed_points (points_where before.now o number source.now)
+        (points_for loaded.now.program b number source.now)) }
+{
+    let told = points_where(alloc, before, old, number, source)?;
+    let points = points_for(alloc, &loaded.program, &loaded.lab, number, source)?;
+    changed_points(alloc, told.as_slice(), points.as_slice())
+}
+
+fn push_points(
+    all: &mut Sequence<PlacedBreakpoint>,
+    points: Sequence<PlacedBreakpoint>,
+) -> Result<(), AllocError>
+    ensures { OnOk result (all.new ≡ all.old ++ points) }
+{
+    for point in points.into_vec() {
+        all.push(point)?;
+    }
+    Ok(())
+}
+
+fn changed_from(
+    alloc: Global,
+    before: &Option<Program>,
+    old: &Lab,
+    loaded: &LoadedProgram,
+    sources: &[SourceLines],
+) -> Result<Sequence<PlacedBreakpoint>, AllocError>
+    requires { length sources.now ≤ 1024 }
+    ensures { (o b : Board) → RepresentsBoard old.now o → RepresentsBoard loaded.now.lab b
+        → IfOk result (λ points. points ≡ changed_from before.now o loaded.now.program b 1 sources.now) }
+{
+    let mut all = Sequence::new(alloc);
+    let mut number = 1;
+    let mut left = sources;
+    while let Some((source, later)) = left.split_first() {
+        push_points(
+            &mut all,
+            changed_in(alloc, before, old, loaded, number, source)?,
+        )?;
+        number += 1;
+        left = later;
+    }
+    Ok(all)
+}
+
+// The breakpoints at labels that aren't what they were.
+fn changed_labels(
+    alloc: Global,
+    before: &Option<Program>,
+    old: &Lab,
+    loaded: &LoadedProgram,
+    points: &WantedBreakpoints,
+) -> Result<Sequence<PlacedBreakpoint>, AllocError>
+    ensures { (o b : Board) → RepresentsBoard old.now o → RepresentsBoard loaded.now.lab b
+        → IfOk result (λ labels. labels ≡ changed_points
+        (labels_where before.now points.now (take 256 points.now.functions) o)
+        (program_labels loaded.now.program points.now b)) }
+{
+    let functions = points.functions();
+    let told = labels_where(alloc, before, points, functions, old)?;
+    let labels = labels_for(alloc, &loaded.program, points, functions, &loaded.lab)?;
+    changed_points(alloc, told.as_slice(), labels.as_slice())
+}
+
+/// The breakpoints that aren't what they were, when a program takes the place of the one before, if there
+/// was one, and of its board.
+pub fn all_changed(
+    alloc: Global,
+    before: &Option<Program>,
+    old: &Lab,
+    loaded: &LoadedProgram,
+    points: &WantedBreakpoints,
+) -> Result<Sequence<PlacedBreakpoint>, AllocError>
+    ensures { (o b : Board) → RepresentsBoard old.now o → RepresentsBoard loaded.now.lab b
+        → IfOk result (λ all. all ≡ all_changed before.now o loaded.now.program points.now b) }
+{
+    let mut all = changed_from(alloc, before, old, loaded, points.sources())?;
+    let labels = changed_labels(alloc, before, old, loaded, points)?;
+    push_points(&mut all, labels)?;
+    Ok(all)
+}

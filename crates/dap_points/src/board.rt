@@ -1,0 +1,58 @@
+//! The lines at which a board stops.
+ghost use Rattle.std.specs.Prelude.{◌≡◌, ◌≤◌, ◌++◌, length, IfOk, OnOk, option_to_list};
+ghost use Rattle.dap_points.specs.Boards.{verified_line, verified_lines, room_behind, wanted_lines};
+
+use crate::points::MOST_POINTS;
+use base_text::sequence::Sequence;
+use dap_editor::message::PlacedBreakpoint;
+use std::alloc::{AllocError, Global};
+
+fn verified_line(point: &PlacedBreakpoint) -> Option<u32>
+    ensures { result ≡ verified_line point.now }
+{
+    if point.is_verified { point.line } else { None }
+}
+
+// Adds a line, if there is one.
+fn push_line(lines: &mut Sequence<u32>, line: Option<u32>) -> Result<(), AllocError>
+    ensures { OnOk result (lines.new ≡ lines.old ++ option_to_list line) }
+{
+    if let Some(line) = line {
+        lines.push(line)?;
+    }
+    Ok(())
+}
+
+fn push_verified(lines: &mut Sequence<u32>, points: &[PlacedBreakpoint]) -> Result<(), AllocError>
+    ensures { OnOk result (lines.new ≡ lines.old ++ verified_lines points.now) }
+{
+    let mut left = points;
+    while let Some((point, later)) = left.split_first() {
+        push_line(lines, verified_line(point))?;
+        left = later;
+    }
+    Ok(())
+}
+
+/// The number of labels for which there is room beside the breakpoints on lines.
+pub fn room_behind(alloc: Global, lines: &[PlacedBreakpoint]) -> Result<usize, AllocError>
+    ensures { IfOk result (λ room. room ≡ room_behind lines.now) }
+{
+    let mut verified = Sequence::new(alloc);
+    push_verified(&mut verified, lines)?;
+    Ok(MOST_POINTS.saturating_sub(verified.len()))
+}
+
+/// The lines at which a board stops: of verified breakpoints on lines, then of those at labels.
+pub fn wanted_lines(
+    alloc: Global,
+    lines: &[PlacedBreakpoint],
+    labels: &[PlacedBreakpoint],
+) -> Result<Sequence<u32>, AllocError>
+    ensures { IfOk result (λ all. all ≡ wanted_lines lines.now labels.now) }
+{
+    let mut all = Sequence::new(alloc);
+    push_verified(&mut all, lines)?;
+    push_verified(&mut all, labels)?;
+    Ok(all)
+}

@@ -1,0 +1,60 @@
+//! A play about breakpoints.
+
+use crate::rows::first_other;
+use std::test::Fail;
+
+/// Breakpoints of a program, and what becomes of them when it is loaded anew.
+const POINTS: &str = r#"
+initialize
+  0 "initialize" true {"exceptionBreakpointFilters":[{"default":true,"filter":"undefined",
+    "label":"Undefined opcodes"},{"default":false,"filter":"halt","label":"HLT"}],
+    "supportsBreakpointLocationsRequest":true,
+    "supportsConfigurationDoneRequest":true,"supportsDisassembleRequest":true,
+    "supportsEvaluateForHovers":true,"supportsExceptionInfoRequest":true,
+    "supportsFunctionBreakpoints":true,"supportsGotoTargetsRequest":true,
+    "supportsLoadedSourcesRequest":true,"supportsReadMemoryRequest":true,
+    "supportsRestartRequest":true,"supportsSetVariable":true,"supportsStepBack":true,
+    "supportsSteppingGranularity":true,"supportsTerminateRequest":true,"supportsWriteMemoryRequest":true}
+launch {"program":"count.asm"} < letters
+  1 "launch" true {}
+  "initialized"
+setBreakpoints {"source":{"path":"count.asm"},"breakpoints":[{"line":1},{"line":8},{"line":6,"condition":"A"},{"line":7}]}
+  2 "setBreakpoints" true {"breakpoints":[
+    {"id":257,"line":3,"message":"moved from line 1","verified":true},
+    {"id":258,"line":8,"message":"no code at or below line 8","verified":false},
+    {"id":259,"line":6,"message":"conditions, hit counts and log messages are not supported","verified":false},
+    {"id":260,"line":7,"verified":true}]}
+setBreakpoints {"source":{"path":"other.asm"},"breakpoints":[{"line":5}]}
+  3 "setBreakpoints" true {"breakpoints":[
+    {"id":513,"line":5,"message":"the program is count.asm","verified":false}]}
+setFunctionBreakpoints {"breakpoints":[{"name":"second"},{"name":"START"},{"name":"FIRST","hitCondition":"2"}]}
+  4 "setFunctionBreakpoints" true {"breakpoints":[
+    {"id":1,"line":5,"verified":true},
+    {"id":2,"message":"the program has no such label","verified":false},
+    {"id":3,"line":3,"message":"conditions, hit counts and log messages are not supported","verified":false}]}
+breakpointLocations {"source":{"path":"count.asm"},"line":0,"endLine":6}
+  5 "breakpointLocations" true {"breakpoints":[{"line":3},{"line":4},{"line":5},{"line":6}]}
+breakpointLocations {"source":{"path":"other.asm"},"line":3}
+  6 "breakpointLocations" true {"breakpoints":[]}
+restart < loop
+  7 "restart" true {}
+  "breakpoint" {"breakpoint":{"id":257,"line":2,"message":"moved from line 1","verified":true},
+    "reason":"changed"}
+  "breakpoint" {"breakpoint":{"id":260,"line":7,"message":"no code at or below line 7",
+    "verified":false},"reason":"changed"}
+  "breakpoint" {"breakpoint":{"id":1,"message":"the program has no such label","verified":false},
+    "reason":"changed"}
+  "breakpoint" {"breakpoint":{"id":3,
+    "message":"conditions, hit counts and log messages are not supported","verified":false},
+    "reason":"changed"}
+configurationDone
+  8 "configurationDone" true {}
+slice
+  "stopped" {"allThreadsStopped":true,"reason":"breakpoint","threadId":1}
+"#;
+
+#[test]
+fn breakpoints_are_placed(rt: HostRuntime) -> Result<(), Fail> {
+    assert_eq!(rt; first_other(rt.alloc(), POINTS)?, None);
+    Ok(())
+}
