@@ -5,9 +5,13 @@
 #![tactic(auto)]
 
 #[cfg(test)]
-mod cases;
+mod acts;
 #[cfg(test)]
-mod ends;
+mod check;
+#[cfg(test)]
+mod finds;
+#[cfg(test)]
+mod inputs;
 #[cfg(test)]
 mod logs;
 #[cfg(test)]

@@ -1,14 +1,11 @@
 //! Runs that go back to counts of steps, and must be as a plain run from power-on was there.
-use crate::cases::{Act, Case, wrong_cases};
-use crate::play::{Given, Live, Place, Play, begin, go_on, is_there};
-use crate::seen::see;
-use i80_exec::registers::Interrupts::On;
-use lab_core::lab::Lab;
-use std::alloc::{AllocError, Global};
+use crate::check::check;
+use std::alloc::AllocError;
 use std::rt::HostRuntime;
 
-/// Reads the console and the switches, and calls; RST 1 counts.
-const KEYBOARD: &str = "\
+/// A keyboard, interrupts, switches, and changes by hand. The program reads the console and the switches, and
+/// calls; RST 1 counts.
+const BUSY: &str = "\
 JMP MAIN
 ORG 8
 PUSH PSW
@@ -41,61 +38,100 @@ CALL NIL
 JNZ W1
 RET
 NIL: RET
+--
+type A
+switches 90
+run 10
+type BC
+run 47
+press 1
+type
+run 1
+press 1
+run 62
+switches 1
+run 80
+press 1
+press 1
+run 100
+press 9
+run 100
+write 559 abc
+run 100
+registers 64 16368
+press 1
+run 1
+type Z
+run 276
+write 65535 ab
+run 422
+type !
+run 1
+switches 7
++compare 0 1201 767
+most 7
++break 18
++searches b
++searches 0
++searches 1
++searches 2
 ";
 
-pub const BUSY: Play = Play {
-    about: "a keyboard, interrupts, switches, and changes by hand",
-    text: KEYBOARD,
-    inputs: &[
-        (0, Given::Typed("A")),
-        (0, Given::Switches(0x5a)),
-        (10, Given::Typed("BC")),
-        (57, Given::Press(1)),
-        (57, Given::Typed("")),
-        (58, Given::Press(1)),
-        (120, Given::Switches(1)),
-        (200, Given::Press(1)),
-        (200, Given::Press(1)),
-        (300, Given::Press(9)),
-        (400, Given::Write(0x22f, &[1, 2, 3])),
-        (500, Given::Registers(0x40, 0x3ff0, On)),
-        (500, Given::Press(1)),
-        (501, Given::Typed("Z")),
-        (777, Given::Write(0xffff, &[0, 0xc3])),
-        (1199, Given::Typed("!")),
-        (1200, Given::Switches(7)),
-    ],
-    steps: 1200,
-};
-
 /// HLT is each sixth step from the third on, and waits for the request.
-const WAITING: Play = Play {
-    about: "a program that waits for requests",
-    text: "LXI SP,4000H\nX: EI\nHLT\nJMP X\nORG 10H\nINR B\nRET",
-    inputs: &[(3, Given::Press(2)), (9, Given::Press(2))],
-    steps: 15,
-};
+const WAITING: &str = "\
+LXI SP,4000H
+X: EI
+HLT
+JMP X
+ORG 10H
+INR B
+RET
+--
+run 3
+press 2
+run 6
+press 2
+run 6
++compare 0 16 767
+";
 
-const ALONE: Play = Play {
-    about: "a program without inputs",
-    text: "LXI SP,4000H\nX: CALL F\nJMP X\nF: CALL G\nRET\nG: INR B\nPUSH B\nPOP D\nRET",
-    inputs: &[],
-    steps: 300,
-};
+/// A program without inputs.
+const ALONE: &str = "\
+LXI SP,4000H
+X: CALL F
+JMP X
+F: CALL G
+RET
+G: INR B
+PUSH B
+POP D
+RET
+--
+run 300
++compare 0 301 767
+";
 
-const FRAMES: Play = Play {
-    about: "changes by hand of the stack pointer, with frames live",
-    text: "LXI SP,4000H\nCALL F\nF: CALL G\nG: INR A\nX: JMP X",
-    inputs: &[
-        (4, Given::Registers(10, 0x3ffe, On)),
-        (6, Given::Write(0x3ffc, &[0, 1])),
-        (9, Given::Registers(3, 0x3000, On)),
-    ],
-    steps: 20,
-};
+/// Changes by hand of the stack pointer, with frames live.
+const FRAMES: &str = "\
+LXI SP,4000H
+CALL F
+F: CALL G
+G: INR A
+X: JMP X
+--
+run 4
+registers 10 16382
+run 2
+write 16380 ab
+run 3
+registers 3 12288
+run 11
++compare 0 21 767
+";
 
-/// Counts in memory, and mixes the bytes of the console and the switches.
-const MIXED: &str = "\
+/// The program counts in memory, and mixes the bytes of the console and the switches. On the way to its end a
+/// moment is saved after 8,808 steps, and on the way to 8,807 one after 615. The run goes back step by step.
+const STEPS: &str = "\
 X: LHLD 210H
 INX H
 SHLD 210H
@@ -107,27 +143,30 @@ XRA B
 MOV B,A
 STA 200H
 JMP X
+--
+most 1000
+skip 615
+type ab
+skip 8164
+run 28
+switches 3
+run 1
+type cd
+switches 90
+run 1
+write 528 ab
+run 91
+skip 8069
+run 21
+type e
+run 10
++compare 123 154 30
++compare 2 123 120
 ";
 
-/// On the way to its end a moment is saved after 8,808 steps, and on the way to 8,807 one after 615.
-const STEPS: Play = Play {
-    about: "a run that goes back step by step",
-    text: MIXED,
-    inputs: &[
-        (615, Given::Typed("ab")),
-        (8807, Given::Switches(3)),
-        (8808, Given::Typed("cd")),
-        (8808, Given::Switches(0x5a)),
-        (8809, Given::Write(0x210, &[9, 9])),
-        (16_990, Given::Typed("e")),
-    ],
-    steps: 17_000,
-};
-
-/// Counts in memory by a routine, and keeps the byte that the console gives.
-const LONG: Play = Play {
-    about: "a run with a saved moment",
-    text: "\
+/// The program counts in memory by a routine, and keeps the byte that the console gives. A moment is saved
+/// after 1,049,000 steps.
+const LONG: &str = "\
 LXI SP,4000H
 X: CALL F
 IN 1
@@ -137,156 +176,101 @@ F: LHLD 210H
 INX H
 SHLD 210H
 RET
-",
-    inputs: &[
-        (3, Given::Typed("a")),
-        (1_000_000, Given::Typed("bcd")),
-        (1_047_000, Given::Switches(3)),
-        (1_051_000, Given::Write(0x211, &[0x77])),
-    ],
-    steps: 1_052_000,
-};
-
-/// Counts of steps in ascending order. A moment is saved after 1,049,000 steps.
-const COUNTS: [u64; 7] = [
-    2, 1_048_999, 1_049_000, 1_049_001, 1_050_999, 1_051_000, 1_052_000,
-];
-
-const CASES: [Case; 6] = [
-    (BUSY, 97, Act::Everywhere, ""),
-    (WAITING, 97, Act::Everywhere, ""),
-    (ALONE, 97, Act::Everywhere, ""),
-    (FRAMES, 97, Act::Everywhere, ""),
-    (
-        STEPS,
-        1000,
-        Act::Steps(&[(16_970, 17_000), (8_780, 8_900)]),
-        "",
-    ),
-    (LONG, 1000, Act::Counts(&COUNTS), ""),
-];
-
-fn see_each(
-    alloc: Global,
-    lab: &mut Lab,
-    play: Play,
-    counts: &[u64],
-) -> Result<Vec<u64>, AllocError> {
-    let mut seen = Vec::new(alloc);
-    let mut place = Place {
-        count: 0,
-        inputs: 0,
-    };
-    for count in counts {
-        place = go_on(alloc, lab, play, place, *count)?;
-        seen.push(see(lab))?;
-    }
-    Ok(seen)
-}
-
-// What a plain run from power-on is at these counts, which ascend.
-fn plain(alloc: Global, play: Play, counts: &[u64]) -> Result<Vec<u64>, AllocError> {
-    let mut lab = begin(alloc, play.text)?;
-    let seen = see_each(alloc, &mut lab, play, counts);
-    drop(lab);
-    seen
-}
-
-// The counts from one to another.
-fn counts_from(alloc: Global, first: u64, last: u64) -> Result<Vec<u64>, AllocError> {
-    let mut counts = Vec::new(alloc);
-    for count in first..last.saturating_add(1) {
-        counts.push(count)?;
-    }
-    Ok(counts)
-}
-
-// Adds a line if the run isn't there at this count, or isn't as it was.
-fn look(live: &mut Live, count: u64, seen: u64, told: &mut String) -> Result<(), AllocError> {
-    if !is_there(live, count) {
-        return write!(told, "{count} isn't reached\n");
-    }
-    if see(&live.lab) != seen {
-        return write!(told, "{count} is another\n");
-    }
-    Ok(())
-}
-
-/// How many places farther in the list of counts a run goes each time. It shares no factor with the length
-/// of any list.
-const SCATTERED: usize = 767;
-
-/// Goes to each of these counts once, each time so many places on in their list, and to the first one again.
-pub fn compare(
-    live: &mut Live,
-    counts: &[u64],
-    seen: &[u64],
-    stride: usize,
-    told: &mut String,
-) -> Result<(), AllocError> {
-    let len = counts.len().min(seen.len());
-    for i in 0..len.saturating_add(1) {
-        if len > 0 {
-            let at = i.saturating_add(1).wrapping_mul(stride) % len;
-            look(live, counts[at], seen[at], told)?;
-        }
-    }
-    Ok(())
-}
-
-fn look_at_all(
-    alloc: Global,
-    live: &mut Live,
-    play: Play,
-    counts: &[u64],
-    stride: usize,
-    told: &mut String,
-) -> Result<(), AllocError> {
-    let seen = plain(alloc, play, counts)?;
-    compare(live, counts, seen.as_slice(), stride, told)
-}
-
-/// Goes to each of these counts, which ascend, in scattered order.
-pub fn look_at(
-    alloc: Global,
-    live: &mut Live,
-    play: Play,
-    counts: &[u64],
-    told: &mut String,
-) -> Result<(), AllocError> {
-    look_at_all(alloc, live, play, counts, SCATTERED, told)
-}
-
-/// Goes to each count of the run, in scattered order.
-pub fn look_everywhere(
-    alloc: Global,
-    live: &mut Live,
-    play: Play,
-    told: &mut String,
-) -> Result<(), AllocError> {
-    let counts = counts_from(alloc, 0, play.steps)?;
-    look_at_all(alloc, live, play, counts.as_slice(), SCATTERED, told)
-}
-
-/// Goes back step by step from the last count of each range to the first, and then to the last again.
-pub fn look_step_by_step(
-    alloc: Global,
-    live: &mut Live,
-    play: Play,
-    ranges: &[(u64, u64)],
-    told: &mut String,
-) -> Result<(), AllocError> {
-    for (first, last) in ranges {
-        let counts = counts_from(alloc, *first, *last)?;
-        let back = counts.len().saturating_sub(1);
-        look_at_all(alloc, live, play, counts.as_slice(), back, told)?;
-    }
-    Ok(())
-}
+--
+most 1000
+skip 1
+-run 1
+-skip 1
++skip 2
+type a
+skip 999997
+type bcd
+skip 47000
+switches 3
+-skip 1998
+-run 3
+-skip 1997
+-run 2
++skip 4000
+write 529 w
+-skip 999
+-run 1
++skip 1000
++compare 0 11 767
+";
 
 #[test]
 fn runs_go_back_to_their_counts(rt: HostRuntime) -> Result<(), AllocError> {
-    let wrong = wrong_cases(rt.alloc(), &CASES)?;
-    assert!(rt; wrong.is_empty(), "{wrong}");
-    Ok(())
+    check(&rt, &[BUSY, WAITING, ALONE, FRAMES, STEPS, LONG])
+}
+
+/// HLT ends it after two steps, and it goes on by changes by hand. RST 1 leads on to a second HLT, so that it
+/// makes no more than 7 steps.
+const TWO_ENDS: &str = "\
+MVI A,1
+HLT
+INR A
+HLT
+ORG 8
+INR B
+RET
+--
+run 2
++ended
++goto 2
++registers 3 16384
++press 1
++resume
++note
++each 5
++compare 0 8 3
++stopped
++unreached 8
++goto 7
++registered 2 3 5
+";
+
+/// Its inputs after 60 steps are forgotten, and another comes, with which it becomes the plain run.
+const CHANGED: &str = "\
+X: IN 2
+STA 200H
+IN 1
+STA 201H
+JMP X
+--
+most 7
+run 10
+switches 1
+run 50
+type a
++skip 1
++switches 2
++skip 29
++type b
++skip 10
++goto 60
++forget 1
++forget 0
+switches 9
++resume
+run 40
++here
++compare 0 101 767
++goto 100
++here
+";
+
+const LOOP: &str = "\
+X: NOP
+NOP
+JMP X
+--
+most 10
++skip 80
++breakpoint
+";
+
+#[test]
+fn runs_end_and_go_on_otherwise(rt: HostRuntime) -> Result<(), AllocError> {
+    check(&rt, &[TWO_ENDS, CHANGED, LOOP])
 }

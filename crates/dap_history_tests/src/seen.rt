@@ -1,7 +1,38 @@
 //! What tests compare of a run.
-use i80_exec::registers::{Interrupts, Registers};
+use crate::play::Live;
+use i80_exec::registers::Interrupts;
 use lab_core::lab::Lab;
 use lab_frames::frame::Frame;
+use std::alloc::AllocError;
+
+/// What a run was after a count of steps, and with all inputs until then.
+#[derive(Clone, Copy)]
+pub struct Seen {
+    pub count: u64,
+    pub hash: u64,
+    pub pc: u16,
+    /// Whether a statement begins at PC.
+    pub is_first: bool,
+    /// How many frames were live.
+    pub depth: usize,
+}
+
+/// What tests note.
+#[derive(Drop)]
+pub struct Notes {
+    pub seen: Vec<Seen>,
+    /// The first row that was wrong, and how many steps the run had made.
+    pub wrong: Option<(usize, u64)>,
+}
+
+impl Notes {
+    /// Keeps the row, if it is the first one that is wrong.
+    pub fn tell(&mut self, is_right: bool, row: usize, count: u64) {
+        if !is_right && self.wrong.is_none() {
+            self.wrong = Some((row, count));
+        }
+    }
+}
 
 // One more number in a hash (Fowler, Noll and Vo's 1a).
 fn mixed(hash: u64, number: u16) -> u64 {
@@ -72,4 +103,29 @@ pub fn see(lab: &Lab) -> u64 {
     let data = with_bytes(low, lab, 0x200, 0x40);
     let stack = with_bytes(data, lab, 0x3f80, 0x80);
     with_devices(with_frames(stack, lab), lab)
+}
+
+fn seen_now(live: &Live) -> Seen {
+    let pc = live.lab.regs().pc;
+    Seen {
+        count: live.count,
+        hash: see(&live.lab),
+        pc,
+        is_first: match live.lab.origin_at(pc) {
+            Some(origin) => origin.is_first,
+            None => false,
+        },
+        depth: live.lab.frames().len(),
+    }
+}
+
+/// Notes what the run is now, in place of what it was after as many steps.
+pub fn note(notes: &mut Notes, live: &Live) -> Result<(), AllocError> {
+    if let Some(last) = notes.seen.last()
+        && last.count == live.count
+    {
+        let _ = notes.seen.pop();
+    }
+    notes.seen.push(seen_now(live))?;
+    Ok(())
 }
