@@ -1,0 +1,9 @@
+pub mod Parts
+pub mod Words
+pub mod Brackets
+pub mod Names
+pub mod Terms
+pub mod Clauses
+pub mod Hexadecimal
+pub mod Expressions
+pub mod Values
