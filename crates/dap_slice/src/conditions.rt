@@ -1,0 +1,95 @@
+//! Breakpoints with conditions.
+ghost use Rattle.std.specs.Prelude.{◌≡◌, ◌++◌, ◌∷◌, [], IfOk, OnOk, OnErr};
+ghost use Rattle.std.specs.List.{list_any};
+ghost use Rattle.asm_expr.specs.declared.evaluation.ExprFault.{ExprFault};
+ghost use Rattle.lab_core.specs.Board.{Board};
+ghost use Rattle.lab_core.specs.Labs.{RepresentsBoard};
+ghost use Rattle.dap_slice.specs.Conditions.{is_true, is_met_on};
+
+use asm_expr::evaluation::ExprFault;
+use dap_expr::expression::Expression;
+use lab_core::lab::Lab;
+use lab_core::marks::Marks;
+use std::alloc::{AllocError, Global};
+use std::marker::Model;
+
+/// A breakpoint at an address, and its condition.
+#[derive(Drop)]
+pub struct ConditionalBreakpoint {
+    pub address: u16,
+    pub condition: Expression,
+}
+
+/// Breakpoints with conditions, with marks at their addresses.
+#[derive(Drop)]
+pub struct ConditionalBreakpoints {
+    pub(crate) points: Vec<ConditionalBreakpoint>,
+    pub(crate) marks: Marks,
+}
+
+impl Model for ConditionalBreakpoints {
+    ghost use Rattle.std.specs.Prelude.{List};
+    ghost use Rattle.dap_slice.specs.declared.conditions.ConditionalBreakpoint.{ConditionalBreakpoint};
+    ghost use Rattle.dap_slice.specs.Conditions.{IsMarked};
+    ghost use Rattle.std.specs.Coded.{codes};
+    ghost use Rattle.asm_expr.specs.contracts.expression.Expr as expr;
+
+    ghost Value = { List ConditionalBreakpoint };
+
+    ghost coded = { Prim.hlevel (codes, expr.the_row.coded) };
+
+    ghost view = { λ b. b.points.items };
+
+    ghost invariant = { λ b. IsMarked b.points.items b.marks };
+}
+
+fn is_true(value: Result<u16, ExprFault>) -> bool
+    ensures { result ≡ is_true value }
+{
+    match value {
+        Ok(value) => value != 0,
+        Err(_) => true,
+    }
+}
+
+fn is_met(lab: &Lab, point: &ConditionalBreakpoint) -> bool
+    ensures { (b : Board) → RepresentsBoard lab.now b → result ≡ is_met_on b point.now }
+{
+    point.address == lab.regs().pc && is_true(point.condition.value(lab))
+}
+
+/// Whether a breakpoint is at PC and its condition is true.
+pub(crate) fn is_any_met(lab: &Lab, points: &[ConditionalBreakpoint]) -> bool
+    ensures { (b : Board) → RepresentsBoard lab.now b → result ≡ list_any (is_met_on b) points.now }
+{
+    for point in points {
+        if is_met(lab, point) {
+            return true;
+        }
+    }
+    false
+}
+
+impl ConditionalBreakpoints {
+    /// No breakpoints.
+    pub fn new(alloc: Global) -> Result<ConditionalBreakpoints, AllocError>
+        ensures { IfOk result (λ points. points ≡ []) }
+    {
+        let marks = Marks::new(alloc)?;
+        Ok(ConditionalBreakpoints {
+            points: Vec::new(alloc),
+            marks,
+        })
+    }
+
+    /// Adds a breakpoint. If memory runs out nothing changes.
+    pub fn push(&mut self, point: ConditionalBreakpoint) -> Result<(), AllocError>
+        ensures ok { OnOk result (self.new ≡ self.old ++ point ∷ []) }
+        ensures err { OnErr result (self.new ≡ self.old) }
+    {
+        let address = point.address;
+        self.points.push(point)?;
+        self.marks.add_address(address);
+        Ok(())
+    }
+}

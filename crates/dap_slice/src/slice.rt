@@ -1,0 +1,143 @@
+//! Slices of at most so many steps.
+ghost use Rattle.std.specs.Prelude.{◌≡◌, ◌≢◌, ◌≤◌, ℕ, List, length, Ok, IfOk, OnErr};
+ghost use Rattle.i80_exec.specs.declared.ports.PortOperation.{PortOperation};
+ghost use Rattle.lab_core.specs.declared.answer.SliceOutcome.{SliceOutcome};
+ghost use Rattle.lab_core.specs.declared.run_state.RunState.TheVariants.{Running};
+ghost use Rattle.lab_core.specs.Board.{Board};
+ghost use Rattle.lab_core.specs.Slices.{after_steps, left_by};
+ghost use Rattle.lab_core.specs.SliceEnds.{slice_from};
+ghost use Rattle.lab_core.specs.Labs.{RepresentsBoard};
+ghost use Rattle.dap_slice.specs.Conditions.{outcome_at};
+ghost use Rattle.dap_slice.specs.SliceEnds.{MakesSlice};
+ghost use Rattle.dap_slice.specs.SliceEnds.{IsSliceEnd, IsSliceWithin, stopped_if_met};
+ghost use Rattle.dap_slice.specs.SliceEnds.{after_end, after_slice_within};
+
+use crate::conditions::{ConditionalBreakpoint, ConditionalBreakpoints, is_any_met};
+use i80_devs::traffic::Traffic;
+use lab_core::answer::{Answer, SliceOutcome, Stop};
+use lab_core::event::Event;
+use lab_core::fault::EventFault;
+use lab_core::lab::Lab;
+use std::alloc::AllocError;
+
+/// What a slice did.
+#[derive(Drop)]
+pub struct SliceResult {
+    /// The number of steps.
+    pub executed: u16,
+    pub traffic: Traffic,
+    pub outcome: SliceOutcome,
+}
+
+// The slice that a board answers with.
+fn slice_in(answer: Result<Answer, EventFault>) -> Result<SliceResult, AllocError>
+    ensures ok { IfOk result (λ s. answer ≡ Ok (Answer.Sliced s.executed s.traffic s.outcome)) }
+    ensures err { OnErr result ((k : ℕ) (operations : List PortOperation) (ending : SliceOutcome)
+        → answer ≢ Ok (Answer.Sliced k operations ending)) }
+{
+    match answer {
+        Ok(
+            Answer::Sliced {
+                executed,
+                traffic,
+                outcome,
+            },
+        ) => Ok(SliceResult {
+            executed,
+            traffic,
+            outcome,
+        }),
+        other => {
+            drop(other);
+            Err(AllocError)
+        }
+    }
+}
+
+// Makes the board's own slice, which tests nothing after a step. Its errors are those of `slice`.
+fn plain_slice(lab: &mut Lab, most: u16) -> Result<SliceResult, AllocError>
+    requires { (1 ≤ most) × (most ≤ 4096) }
+    ensures made { (b : Board) → RepresentsBoard lab.old b → b.run ≡ Running
+        → IfOk result (λ s. IsSliceEnd (slice_from most 0 b) b s
+        × RepresentsBoard lab.new (after_end (slice_from most 0 b) b)) }
+    ensures few { (b : Board) → RepresentsBoard lab.old b → IfOk result (λ s. length s.traffic ≤ 4096) }
+    ensures err { (b : Board) → RepresentsBoard lab.old b → OnErr result (lab.new ≡ lab.old) }
+{
+    let answer = lab.apply(&Event::Slice(most));
+    slice_in(answer)
+}
+
+// Stops a run that goes on, if it is at a breakpoint whose condition is true.
+fn stop_if_met(lab: &mut Lab, points: &[ConditionalBreakpoint]) -> SliceOutcome
+    ensures { (b : Board) → RepresentsBoard lab.old b → b.run ≡ Running
+        → (result ≡ outcome_at points.now b) × RepresentsBoard lab.new (left_by result b) }
+{
+    if !is_any_met(lab, points) {
+        return SliceOutcome::More;
+    }
+    let answer = lab.apply(&Event::Pause);
+    let is_stopped = answer.is_ok();
+    drop(answer);
+    if is_stopped {
+        SliceOutcome::Stop(Stop::Breakpoint)
+    } else {
+        SliceOutcome::More
+    }
+}
+
+// How a slice ends that has come to this outcome: if it is `More`, the run may be at a breakpoint.
+fn end_at(lab: &mut Lab, points: &[ConditionalBreakpoint], outcome: SliceOutcome) -> SliceOutcome
+    ensures { (b : Board) (k : ℕ) → b.run ≡ Running
+        → RepresentsBoard lab.old (left_by outcome (after_steps k b))
+        → (result ≡ (stopped_if_met points.now b (k, outcome)).1)
+        × RepresentsBoard lab.new (left_by result (after_steps k b)) }
+{
+    match outcome {
+        SliceOutcome::More => stop_if_met(lab, points),
+        other => other,
+    }
+}
+
+impl ConditionalBreakpoints {
+    /// Makes a slice of at most `most` steps, which ends where the run comes to one of these breakpoints and
+    /// stops it if the condition is true. A board without a run that goes on gives the same error as one that
+    /// runs out of memory.
+    pub fn slice(&mut self, lab: &mut Lab, most: u16) -> Result<SliceResult, AllocError>
+        requires { (1 ≤ most) × (most ≤ 4096) × ((b : Board) × RepresentsBoard lab.old b) }
+        ensures made { MakesSlice self.old most lab.old result lab.new }
+        ensures few { IfOk result (λ s. length s.traffic ≤ 4096) }
+        ensures rest { (self.new ≡ self.old) × OnErr result (lab.new ≡ lab.old) }
+    {
+        if self.points.is_empty() {
+            plain_slice(lab, most)
+        } else {
+            self.slice_to_point(lab, most)
+        }
+    }
+
+    // Makes a slice that tests after each step whether the run has come to a breakpoint.
+    fn slice_to_point(&mut self, lab: &mut Lab, most: u16) -> Result<SliceResult, AllocError>
+        requires most { (1 ≤ most) × (most ≤ 4096) }
+        requires board { (b : Board) × RepresentsBoard lab.old b }
+        ensures made { (b : Board) → RepresentsBoard lab.old b → b.run ≡ Running
+            → IfOk result (λ s. IsSliceWithin self.old most b s
+            × RepresentsBoard lab.new (after_slice_within self.old most b)) }
+        ensures few { (b : Board) → RepresentsBoard lab.old b → IfOk result (λ s. length s.traffic ≤ 4096) }
+        ensures err { (b : Board) → RepresentsBoard lab.old b → OnErr result (lab.new ≡ lab.old) }
+        ensures same { self.new ≡ self.old }
+    {
+        let answer = lab.slice_to(most, &mut self.marks);
+        let points = self.points.as_slice();
+        let SliceResult {
+            executed,
+            traffic,
+            outcome,
+        } = slice_in(answer)?;
+        let outcome = end_at(lab, points, outcome);
+        Ok(SliceResult {
+            executed,
+            traffic,
+            outcome,
+        })
+    }
+}
