@@ -22,7 +22,7 @@ use Rattle.dap_debugger.specs.declared.incoming.StreamEnd.{StreamEnd}
 use Rattle.dap_debugger.specs.declared.conversation.ConversationEnd.{ConversationEnd}
 use Rattle.dap_debugger.specs.declared.conversation.ConversationEnd.TheVariants as end
 use Rattle.dap_debugger.specs.Requests.{request_of}
-use Rattle.dap_editor.specs.declared.message.Message.{Message}
+use Rattle.dap_messages.specs.declared.message.Message.{Message}
 use Rattle.dap_debugger.specs.Sending.{sent_bytes}
 use Rattle.dap_debugger.specs.Given.{Gave}
 use Rattle.dap_debugger.specs.Debuggers.{DebuggerState, Past, PastSlice}

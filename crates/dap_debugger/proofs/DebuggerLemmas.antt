@@ -1,7 +1,7 @@
 use Rattle.std.proofs.Common.{◌≡◌, ℕ, ◌+◌, List, [], ◌∷◌, ◌++◌, length, refl, arith, sym, ◌∙◌, ap, subst}
 use Rattle.std.proofs.Common.{append_assoc, length-append}
 use Rattle.std.proofs.lemmas.List.{append-nil}
-use Rattle.dap_editor.specs.declared.message.Message.{Message}
+use Rattle.dap_messages.specs.declared.message.Message.{Message}
 use Rattle.dap_record.specs.Recordings.{RecordedState, recorded_before_requests}
 use Rattle.dap_record.specs.Slices.{Input, step, play_all}
 use Rattle.dap_record.specs.Represents.{RepresentsRecorded, Tells}

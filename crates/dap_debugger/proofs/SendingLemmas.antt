@@ -2,7 +2,7 @@ use Rattle.std.proofs.Common.{◌≡◌, ℕ, ◌+◌, List, [], ◌∷◌, ◌+
 use Rattle.std.proofs.Common.{append_assoc, length-append}
 use Rattle.std.proofs.lemmas.List.{append-nil, nil_from_length}
 use Rattle.dap_stream.specs.Writing.{message_bytes}
-use Rattle.dap_editor.specs.declared.message.Message.{Message}
+use Rattle.dap_messages.specs.declared.message.Message.{Message}
 use Rattle.dap_debugger.specs.Sending.{text_of, sent_bytes, concat_messages}
 
 -- how far writing has come

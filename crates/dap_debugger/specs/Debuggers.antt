@@ -1,7 +1,7 @@
 -- What a debugger represents: all requests and slices so far, and all that it sent.
 use Rattle.std.specs.Prelude.{◌≡◌, ℕ, List, [], ◌∷◌, ◌++◌, length, Bool}
 use Rattle.base_text.specs.Bytes.{Bytes}
-use Rattle.dap_editor.specs.declared.message.Message.{Message}
+use Rattle.dap_messages.specs.declared.message.Message.{Message}
 use Rattle.dap_record.specs.Fields.{RecordedFields}
 use Rattle.dap_record.specs.Recordings.{recorded_before_requests}
 use Rattle.dap_record.specs.Slices.{Input, slice, play_all}

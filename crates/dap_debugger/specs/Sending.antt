@@ -3,8 +3,8 @@ use Rattle.std.specs.Prelude.{ℕ, ◌+◌, List, [], ◌∷◌, ◌++◌}
 use Rattle.base_text.specs.Bytes.{Bytes}
 use Rattle.serde_json.specs.Written.{compact_text}
 use Rattle.dap_stream.specs.Writing.{message_bytes}
-use Rattle.dap_editor.specs.declared.message.Message.{Message}
-use Rattle.dap_editor.specs.Json.{message_json}
+use Rattle.dap_messages.specs.declared.message.Message.{Message}
+use Rattle.dap_messages.specs.Json.{message_json}
 
 -- the JSON of a message with this number, with no blanks
 abbrev pub text_of : ℕ → Message → Bytes

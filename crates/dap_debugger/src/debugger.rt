@@ -5,9 +5,9 @@ ghost use Rattle.dap_record.specs.Slices.{Input, request as asks};
 
 use crate::sending::put_all;
 use base_text::sequence::{Bytes, Sequence};
-use dap_editor::message::Message;
 use dap_editor::request::EditorRequest;
 use dap_launch::file::FileText;
+use dap_messages::message::Message;
 use dap_record::recorded::RecordedSession;
 use std::alloc::{AllocError, Global};
 use std::marker::Model;
@@ -21,10 +21,14 @@ pub struct Debugger {
 }
 
 impl Model for Debugger {
+    ghost use Rattle.std.specs.Coded.{codes};
+    ghost use Rattle.asm_expr.specs.contracts.expression.Expr as expr;
     ghost use Rattle.dap_debugger.specs.Debuggers.{DebuggerState};
     ghost use Rattle.dap_debugger.specs.Sending.{concat_messages};
 
     ghost Value = { DebuggerState };
+
+    ghost coded = { Prim.hlevel (codes, expr.the_row.coded) };
 
     ghost view = { λ d. record { session = d.session; sent = d.sent; told = concat_messages d.told.items } };
 }

@@ -4,13 +4,13 @@ ghost use Rattle.dap_stream.specs.Writing.{message_bytes};
 ghost use Rattle.dap_debugger.specs.Sending.{text_of, sent_bytes, concat_messages};
 
 use base_text::sequence::Sequence;
-use dap_editor::json::message_json;
-use dap_editor::message::Message;
+use dap_messages::json::message_json;
+use dap_messages::message::Message;
 use dap_stream::writing::put_message;
 use std::alloc::{AllocError, Global};
 
 // The JSON text of a message with this number.
-#[tactic(auto, using(dap_editor::proofs::FloatLemmas::message_has_no_float))]
+#[tactic(auto, using(dap_messages::proofs::FloatLemmas::message_has_no_float))]
 fn text_of(alloc: Global, number: u64, message: &Message) -> Result<String, AllocError>
     ensures { IfOk result (λ text. string_bytes text ≡ text_of number message.now) }
 {

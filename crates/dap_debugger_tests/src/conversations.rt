@@ -14,7 +14,7 @@ const LETTER: &str = r#"
 > {"seq":1,"type":"request","command":"initialize"}
 < {"body":{"exceptionBreakpointFilters":[{"default":true,"filter":"undefined",
     "label":"Undefined opcodes"},{"default":false,"filter":"halt","label":"HLT"}],
-    "supportsBreakpointLocationsRequest":true,
+    "supportsBreakpointLocationsRequest":true,"supportsConditionalBreakpoints":true,
     "supportsConfigurationDoneRequest":true,"supportsDisassembleRequest":true,
     "supportsEvaluateForHovers":true,"supportsExceptionInfoRequest":true,
     "supportsFunctionBreakpoints":true,"supportsGotoTargetsRequest":true,
@@ -44,7 +44,7 @@ const LOOP: &str = r#"
 > {"seq":2,"type":"request","command":"initialize"}
 < {"body":{"exceptionBreakpointFilters":[{"default":true,"filter":"undefined",
     "label":"Undefined opcodes"},{"default":false,"filter":"halt","label":"HLT"}],
-    "supportsBreakpointLocationsRequest":true,
+    "supportsBreakpointLocationsRequest":true,"supportsConditionalBreakpoints":true,
     "supportsConfigurationDoneRequest":true,"supportsDisassembleRequest":true,
     "supportsEvaluateForHovers":true,"supportsExceptionInfoRequest":true,
     "supportsFunctionBreakpoints":true,"supportsGotoTargetsRequest":true,
@@ -73,7 +73,7 @@ const BACK: &str = r#"
 > {"seq":1,"type":"request","command":"initialize"}
 < {"body":{"exceptionBreakpointFilters":[{"default":true,"filter":"undefined",
     "label":"Undefined opcodes"},{"default":false,"filter":"halt","label":"HLT"}],
-    "supportsBreakpointLocationsRequest":true,
+    "supportsBreakpointLocationsRequest":true,"supportsConditionalBreakpoints":true,
     "supportsConfigurationDoneRequest":true,"supportsDisassembleRequest":true,
     "supportsEvaluateForHovers":true,"supportsExceptionInfoRequest":true,
     "supportsFunctionBreakpoints":true,"supportsGotoTargetsRequest":true,
@@ -139,7 +139,7 @@ const SEARCH: &str = r#"
 > {"seq":2,"type":"request","command":"initialize"}
 < {"body":{"exceptionBreakpointFilters":[{"default":true,"filter":"undefined",
     "label":"Undefined opcodes"},{"default":false,"filter":"halt","label":"HLT"}],
-    "supportsBreakpointLocationsRequest":true,
+    "supportsBreakpointLocationsRequest":true,"supportsConditionalBreakpoints":true,
     "supportsConfigurationDoneRequest":true,"supportsDisassembleRequest":true,
     "supportsEvaluateForHovers":true,"supportsExceptionInfoRequest":true,
     "supportsFunctionBreakpoints":true,"supportsGotoTargetsRequest":true,

@@ -120,21 +120,31 @@ abbrev pub is_unset : Option Data → Bool
 is_unset None = true
 is_unset (Some d) = is_some (as_null d) || is_text [] d
 
--- without a condition, a hit count and a log message, which aren't supported
+-- a text that isn't empty
+abbrev pub some_text : Text → Option Text
+some_text [] = None
+some_text (character ∷ text) = Some (character ∷ text)
+
+abbrev pub condition_of : Data → Option Text
+condition_of d = option_and_then some_text (text_at (codes "condition") d)
+
+-- without a hit count and a log message, which aren't supported; a condition is a text
 abbrev pub is_plain : Data → Bool
 is_plain d =
-    is_unset (get (codes "condition") d)
+    (is_some (text_at (codes "condition") d) || is_unset (get (codes "condition") d))
     && (is_unset (get (codes "hitCondition") d) && is_unset (get (codes "logMessage") d))
 
 -- on a line
 abbrev pub line_of : Data → Option LineBreakpoint
 line_of d =
-    option_map (λ n. record { line = n; is_plain = is_plain d })
+    option_map (λ n. record { line = n; condition = condition_of d; is_plain = is_plain d })
     (option_and_then (whole_between 0 4294967295) (get (codes "line") d))
 
 -- at a label
 abbrev pub function_of : Data → Option FunctionBreakpoint
-function_of d = option_map (λ text. record { name = text; is_plain = is_plain d }) (text_at (codes "name") d)
+function_of d =
+    option_map (λ text. record { name = text; condition = condition_of d; is_plain = is_plain d })
+    (text_at (codes "name") d)
 
 -- what each is, if each is one
 abbrev pub all_of : {T : Type 0} → (Data → Option T) → Items → Option (List T)

@@ -9,7 +9,8 @@ ghost use Rattle.dap_editor.specs.Answer.{Answers};
 ghost use Rattle.dap_editor.specs.Argument.{required_argument, optional, address, IsBackWithin};
 ghost use Rattle.dap_editor.specs.Argument.{shift_within, shift};
 ghost use Rattle.dap_editor.specs.Argument.{context, granularity, is_text, has_text, filters, no_filters};
-ghost use Rattle.dap_editor.specs.Argument.{is_unset, is_plain, line_of, function_of, all_of};
+ghost use Rattle.dap_editor.specs.Argument.{is_unset, some_text, condition_of, is_plain, line_of};
+ghost use Rattle.dap_editor.specs.Argument.{function_of, all_of};
 ghost use Rattle.dap_editor.specs.Argument.{breakpoints, lines, functions, bytes_of, base64};
 ghost use Rattle.dap_editor.specs.Table.{byte, word, any_number, offset, memory_reference};
 
@@ -24,7 +25,7 @@ use dap_talk::arguments::{self, ArgumentFault, address_of, argument_at, whole_be
 use dap_talk::members;
 use lab_shown::step::Granularity;
 use serde_json::Value;
-use std::alloc::Global;
+use std::alloc::{AllocError, Global};
 
 /// A required text.
 pub fn text_at<'a>(request: &'a Value, key: &str) -> Option<&'a str>
@@ -226,20 +227,48 @@ fn is_unset(breakpoint: &Value, key: &str) -> bool
     }
 }
 
+// A copy of a text that isn't empty.
+fn some_text(alloc: Global, text: &str) -> Result<Option<Text>, AllocError>
+    ensures { IfOk result (λ copy. copy ≡ some_text text.now) }
+{
+    if text.is_empty() {
+        return Ok(None);
+    }
+    Ok(Some(Text::copy_of(alloc, text)?))
+}
+
+fn condition_of(alloc: Global, breakpoint: &Value) -> Result<Option<Text>, AllocError>
+    ensures { IfOk result (λ condition. condition ≡ condition_of (view breakpoint.now)) }
+{
+    match members::text_at(breakpoint, "condition") {
+        None => Ok(None),
+        Some(text) => some_text(alloc, text),
+    }
+}
+
 fn is_plain(breakpoint: &Value) -> bool
     ensures { result ≡ is_plain (view breakpoint.now) }
 {
-    is_unset(breakpoint, "condition")
+    (members::text_at(breakpoint, "condition").is_some() || is_unset(breakpoint, "condition"))
         && is_unset(breakpoint, "hitCondition")
         && is_unset(breakpoint, "logMessage")
 }
 
-fn line_of(breakpoint: &Value) -> Option<LineBreakpoint>
-    ensures { result ≡ line_of (view breakpoint.now) }
+fn line_at(breakpoint: &Value) -> Option<u32>
+    ensures { result ≡ option_and_then (whole_between 0 4294967295) (get (codes "line")
+        (view breakpoint.now)) }
 {
-    let line = whole_between(breakpoint.get("line")?, 0, u32::MAX)?;
-    Some(LineBreakpoint {
+    whole_between(breakpoint.get("line")?, 0, u32::MAX)
+}
+
+fn line_of(alloc: Global, breakpoint: &Value) -> Result<LineBreakpoint, ArgumentFault>
+    ensures { Answers (line_of (view breakpoint.now)) result }
+{
+    let line = line_at(breakpoint).ok_or(ArgumentFault::Arguments)?;
+    let condition = condition_of(alloc, breakpoint)?;
+    Ok(LineBreakpoint {
         line,
+        condition,
         is_plain: is_plain(breakpoint),
     })
 }
@@ -250,7 +279,7 @@ fn lines_of(alloc: Global, breakpoints: &[Value]) -> Result<Sequence<LineBreakpo
 {
     let mut lines = Sequence::new(alloc);
     for breakpoint in breakpoints {
-        lines.push(line_of(breakpoint).ok_or(ArgumentFault::Arguments)?)?;
+        lines.push(line_of(alloc, breakpoint)?)?;
     }
     Ok(lines)
 }
@@ -260,8 +289,10 @@ fn function_of(alloc: Global, breakpoint: &Value) -> Result<FunctionBreakpoint, 
 {
     let name = members::text_at(breakpoint, "name").ok_or(ArgumentFault::Arguments)?;
     let name = Text::copy_of(alloc, name)?;
+    let condition = condition_of(alloc, breakpoint)?;
     Ok(FunctionBreakpoint {
         name,
+        condition,
         is_plain: is_plain(breakpoint),
     })
 }

@@ -1,4 +1,6 @@
 //! Requests of an editor.
+ghost use Rattle.std.specs.Prelude.{◌≡◌};
+
 use base_text::sequence::{Bytes, Sequence};
 use base_text::text::Text;
 use dap_talk::command::DapCommand;
@@ -51,18 +53,20 @@ pub struct Launch {
 }
 
 /// A breakpoint on a line of a source.
-#[derive(Clone, Copy)]
+#[derive(Clone, Drop)]
 pub struct LineBreakpoint {
     pub line: u32,
-    /// Whether it has no condition, no hit count and no log message.
+    pub condition: Option<Text>,
+    /// Whether it asks for nothing else, such as a hit count or a log message.
     pub is_plain: bool,
 }
 
 /// A breakpoint at a label.
-#[derive(Drop)]
+#[derive(Clone, Drop)]
 pub struct FunctionBreakpoint {
     pub name: Text,
-    /// Whether it has no condition, no hit count and no log message.
+    pub condition: Option<Text>,
+    /// Whether it asks for nothing else, such as a hit count or a log message.
     pub is_plain: bool,
 }
 
@@ -156,9 +160,33 @@ pub enum RequestContent {
 
 /// A request: its number and the text of its command, which its response repeats, and what it asks for. If a
 /// value isn't a request, the number is 0 and the command is empty.
-#[derive(Drop)]
 pub struct EditorRequest {
     pub seq: u32,
     pub command: Text,
     pub asked: RequestContent,
+}
+
+// Written out so that every place that drops it calls one function.
+impl Drop for EditorRequest {
+    fn drop(self) {
+        let Self {
+            seq: _,
+            command: _,
+            asked: _,
+        } = self;
+    }
+}
+
+impl EditorRequest {
+    /// Its number, the text of its command, and what it asks for.
+    pub fn into_parts(self) -> (u32, Text, RequestContent)
+        ensures { result ≡ (self.seq, self.command, self.asked) }
+    {
+        let Self {
+            seq,
+            command,
+            asked,
+        } = self;
+        (seq, command, asked)
+    }
 }

@@ -2,8 +2,8 @@
 use base_text::sequence::{Bytes, Sequence};
 use base_text::text::Text;
 use dap_answers::answer::{Body, StopReason};
-use dap_editor::json::message_json;
-use dap_editor::message::{
+use dap_messages::json::message_json;
+use dap_messages::message::{
     BreakpointNote, EditorBody, EditorEvent, EditorOutcome, EditorResponse, EditorStop, GotoTarget,
     Message, OutputCategory, PlacedBreakpoint, SourcePlace, UndefinedOpcode,
 };
@@ -15,7 +15,8 @@ enum Note {
     NoCode(u32),
     NotLaunched,
     OtherProgram(&'static str),
-    Conditional,
+    Condition(&'static str),
+    NotSupported,
     NoLabel,
     TooMany,
 }
@@ -26,7 +27,8 @@ fn breakpoint_note(alloc: Global, note: &Note) -> Result<BreakpointNote, AllocEr
         Note::NoCode(line) => Ok(BreakpointNote::NoCode { line: *line }),
         Note::NotLaunched => Ok(BreakpointNote::NotLaunched),
         Note::OtherProgram(path) => Ok(BreakpointNote::OtherProgram(Text::copy_of(alloc, path)?)),
-        Note::Conditional => Ok(BreakpointNote::Conditional),
+        Note::Condition(why) => Ok(BreakpointNote::Condition(Text::copy_of(alloc, why)?)),
+        Note::NotSupported => Ok(BreakpointNote::NotSupported),
         Note::NoLabel => Ok(BreakpointNote::NoLabel),
         Note::TooMany => Ok(BreakpointNote::TooMany),
     }
@@ -56,6 +58,7 @@ fn placed(row: (u32, Option<u32>, bool)) -> PlacedBreakpoint {
     PlacedBreakpoint {
         id: row.0,
         line: row.1,
+        condition: None,
         is_verified: row.2,
         note: None,
     }
@@ -78,6 +81,7 @@ fn noted(alloc: Global, line: u32, row: &Note) -> Result<Sequence<PlacedBreakpoi
     list.push(PlacedBreakpoint {
         id: 1,
         line: Some(line),
+        condition: None,
         is_verified: false,
         note: Some(note),
     })?;
@@ -141,14 +145,14 @@ fn is_written(alloc: Global, message: &Message, json: &str) -> Result<bool, Allo
     Ok(text?.as_str() == json)
 }
 
-const BODIES: [(Shape, &str); 24] = [
+const BODIES: [(Shape, &str); 25] = [
     (Shape::Threads, r#"{"threads":[{"id":1,"name":"8080"}]}"#),
     (
         Shape::Capabilities,
         concat!(
             r#"{"exceptionBreakpointFilters":[{"default":true,"filter":"undefined","#,
             r#""label":"Undefined opcodes"},{"default":false,"filter":"halt","label":"HLT"}],"#,
-            r#""supportsBreakpointLocationsRequest":true,"#,
+            r#""supportsBreakpointLocationsRequest":true,"supportsConditionalBreakpoints":true,"#,
             r#""supportsConfigurationDoneRequest":true,"supportsDisassembleRequest":true,"#,
             r#""supportsEvaluateForHovers":true,"supportsExceptionInfoRequest":true,"#,
             r#""supportsFunctionBreakpoints":true,"supportsGotoTargetsRequest":true,"#,
@@ -183,10 +187,14 @@ const BODIES: [(Shape, &str); 24] = [
         r#"{"breakpoints":[{"id":1,"line":1,"message":"the program is /a b.asm","verified":false}]}"#,
     ),
     (
-        Shape::Noted(1, Note::Conditional),
+        Shape::Noted(1, Note::Condition("condition: Undefined")),
+        r#"{"breakpoints":[{"id":1,"line":1,"message":"condition: Undefined","verified":false}]}"#,
+    ),
+    (
+        Shape::Noted(1, Note::NotSupported),
         concat!(
-            r#"{"breakpoints":[{"id":1,"line":1,"message":"conditions, hit counts and log messages "#,
-            r#"are not supported","verified":false}]}"#,
+            r#"{"breakpoints":[{"id":1,"line":1,"message":"hit counts and log messages are not "#,
+            r#"supported","verified":false}]}"#,
         ),
     ),
     (

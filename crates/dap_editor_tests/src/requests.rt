@@ -74,9 +74,20 @@ fn put_launch(told: &mut String, launch: &Launch) -> Result<(), AllocError> {
     Ok(())
 }
 
-// What follows a breakpoint.
-fn plain_word(is_plain: bool) -> &'static str {
-    if is_plain { "" } else { "?" }
+// What follows a breakpoint: its condition, and `?` if it asks for more.
+fn put_terms(
+    told: &mut String,
+    condition: &Option<Text>,
+    is_plain: bool,
+) -> Result<(), AllocError> {
+    if let Some(condition) = condition {
+        let text = condition.as_str();
+        write!(told, " if {text}")?;
+    }
+    if !is_plain {
+        told.push_str("?")?;
+    }
+    Ok(())
 }
 
 fn put_lines(
@@ -87,8 +98,8 @@ fn put_lines(
     write!(told, "lines {path}")?;
     for breakpoint in breakpoints {
         let line = breakpoint.line;
-        let word = plain_word(breakpoint.is_plain);
-        write!(told, " {line}{word}")?;
+        write!(told, " {line}")?;
+        put_terms(told, &breakpoint.condition, breakpoint.is_plain)?;
     }
     Ok(())
 }
@@ -97,8 +108,8 @@ fn put_functions(told: &mut String, breakpoints: &[FunctionBreakpoint]) -> Resul
     told.push_str("functions")?;
     for breakpoint in breakpoints {
         let name = breakpoint.name.as_str();
-        let word = plain_word(breakpoint.is_plain);
-        write!(told, " {name}{word}")?;
+        write!(told, " {name}")?;
+        put_terms(told, &breakpoint.condition, breakpoint.is_plain)?;
     }
     Ok(())
 }
@@ -335,7 +346,11 @@ setBreakpoints {"source":{"path":""},"lines":[7]} -> lines
 setBreakpoints {"source":{"path":"a"},"breakpoints":[]} -> lines a
 setBreakpoints {"source":{"path":"a"},"#,
     r#""breakpoints":[{"line":4294967295,"condition":""}]} -> lines a 4294967295
-setBreakpoints {"source":{"path":"a"},"breakpoints":[{"line":1,"condition":"A"},{"line":1}]} -> lines a 1? 1
+setBreakpoints {"source":{"path":"a"},"breakpoints":[{"line":1,"condition":"A"}]} -> lines a 1 if A
+setBreakpoints {"source":{"path":"a"},"breakpoints":[{"line":1,"condition":7}]} -> lines a 1?
+setBreakpoints {"source":{"path":"a"},"breakpoints":[{"line":1,"condition":null}]} -> lines a 1
+setBreakpoints {"source":{"path":"a"},"#,
+    r#""breakpoints":[{"line":1,"condition":"B","hitCondition":"2"}]} -> lines a 1 if B?
 setBreakpoints {"source":{"path":"a"},"breakpoints":[{"line":1,"hitCondition":null}]} -> lines a 1
 setBreakpoints {"source":{"path":"a"},"breakpoints":[{"line":1,"hitCondition":"2"}]} -> lines a 1?
 setBreakpoints {"source":{"path":"a"},"breakpoints":[{"line":1,"logMessage":"x"}]} -> lines a 1?
@@ -353,7 +368,7 @@ setFunctionBreakpoints {"breakpoints":[{"name":"LOOP"},{"name":"END","logMessage
 setFunctionBreakpoints {} -> Arguments
 setFunctionBreakpoints {"breakpoints":[{"name":1}]} -> Arguments
 setFunctionBreakpoints {"breakpoints":[{"name":"A","condition":""},{"name":""}]} -> functions A 
-setFunctionBreakpoints {"breakpoints":[{"name":"A","condition":"B"},{"name":"C"}]} -> functions A? C
+setFunctionBreakpoints {"breakpoints":[{"name":"A","condition":"B"},{"name":"C"}]} -> functions A if B C
 setFunctionBreakpoints {"breakpoints":[{"name":"A","hitCondition":null}]} -> functions A
 setFunctionBreakpoints {"breakpoints":[{"name":"A","hitCondition":3}]} -> functions A?
 breakpointLocations {"source":{"path":"a.asm"},"line":5} -> locations a.asm 5 5

@@ -1,7 +1,7 @@
 -- How far a program is, and what its run's end makes of it (Debug Adapter Protocol, `terminated`).
 use Rattle.std.specs.Prelude.{Bool, true, false, not, ◌&&◌, ◌||◌, Option, Some, None, option_and_then}
 use Rattle.lab_core.specs.declared.answer.End.{End}
-use Rattle.dap_editor.specs.declared.message.UndefinedOpcode.{UndefinedOpcode}
+use Rattle.dap_messages.specs.declared.message.UndefinedOpcode.{UndefinedOpcode}
 use Rattle.dap_editor.specs.declared.request.ExceptionFilters.{ExceptionFilters}
 use Rattle.dap_editor.specs.declared.request.Launch.{Launch}
 use Rattle.dap_editor.specs.Argument.{no_filters}

@@ -3,8 +3,8 @@
 use Rattle.std.specs.Prelude.{ℕ, ◌+◌, List, [], ◌∷◌, ◌++◌, take, Option, Some, None, if◌then◌else◌}
 use Rattle.std.specs.Str.{bytes_eq}
 use Rattle.lab_core.specs.Board.{Board}
-use Rattle.dap_editor.specs.declared.message.BreakpointNote.TheVariants.{NotLaunched, OtherProgram}
-use Rattle.dap_editor.specs.declared.message.PlacedBreakpoint.{PlacedBreakpoint}
+use Rattle.dap_messages.specs.declared.message.BreakpointNote.TheVariants.{NotLaunched, OtherProgram}
+use Rattle.dap_messages.specs.declared.message.PlacedBreakpoint.{PlacedBreakpoint}
 use Rattle.dap_editor.specs.declared.request.FunctionBreakpoint.{FunctionBreakpoint}
 use Rattle.dap_points.specs.declared.points.SourceLines.{SourceLines}
 use Rattle.dap_points.specs.Points.{WantedBreakpointsState}

@@ -1,11 +1,13 @@
 -- A launched program (Debug Adapter Protocol, `launch` and `restart`): its breakpoints, and how it begins.
-use Rattle.std.specs.Prelude.{ℕ, List, [], ◌∷◌, take, Bool, ◌&&◌, if◌then◌else◌}
+use Rattle.std.specs.Prelude.{◌≡◌, ℕ, List, [], ◌∷◌, ◌++◌, take, Bool, ◌&&◌, if◌then◌else◌, Result, IfOk}
+use Rattle.std.specs.declared.alloc.AllocError.{AllocError}
 use Rattle.base_text.specs.Bytes.{Text}
 use Rattle.base_text.specs.Latin.{latin_bytes}
 use Rattle.lab_core.specs.declared.event.Event.TheVariants.{Typed}
 use Rattle.lab_core.specs.Board.{Board}
-use Rattle.dap_editor.specs.declared.message.EditorStop.TheVariants.{Entry}
-use Rattle.dap_editor.specs.declared.message.PlacedBreakpoint.{PlacedBreakpoint}
+use Rattle.lab_core.specs.Labs.{LabState, RepresentsBoard}
+use Rattle.dap_messages.specs.declared.message.EditorStop.TheVariants.{Entry}
+use Rattle.dap_messages.specs.declared.message.PlacedBreakpoint.{PlacedBreakpoint}
 use Rattle.dap_editor.specs.declared.request.Launch.{Launch as LaunchOf}
 use Rattle.dap_editor.specs.declared.request.LineBreakpoint.{LineBreakpoint}
 use Rattle.dap_editor.specs.declared.request.FunctionBreakpoint.{FunctionBreakpoint}
@@ -15,7 +17,9 @@ use Rattle.dap_program.specs.declared.messages.FollowUp.TheVariants.{Nothing, Co
 use Rattle.dap_program.specs.declared.opening.LoadReason.{LoadReason}
 use Rattle.dap_program.specs.declared.opening.LoadReason.TheVariants.{Launch, Restart}
 use Rattle.dap_program.specs.Boards.{after, begin_run}
+use Rattle.dap_slice.specs.declared.conditions.ConditionalBreakpoint.{ConditionalBreakpoint}
 use Rattle.dap_program.specs.Breakpoints.{lines_on, board_armed_at, labels_behind}
+use Rattle.dap_lines.specs.Conditions.{conditional_points}
 use Rattle.dap_launch.specs.declared.program.Phase.TheVariants as phase
 use Rattle.dap_launch.specs.declared.program.Program.{Program}
 use Rattle.dap_launch.specs.Lives.{in_phase}
@@ -78,3 +82,22 @@ abbrev pub program_board : Program → WantedBreakpointsState → Board → Boar
 program_board p kept b =
     let path = p.launch.program in
     armed_with p (number_of path kept.lists) (lines_at path kept.lists) (take 256 kept.functions) b
+
+-- those that have conditions, of these lines and labels
+abbrev pub conditional_with : ℕ → List LineBreakpoint → List FunctionBreakpoint → Board
+    → List ConditionalBreakpoint
+conditional_with number lines functions b =
+    let on_lines = lines_on b number lines in
+    conditional_points b on_lines ++ conditional_points b (labels_behind b on_lines functions)
+
+abbrev pub program_conditions : Program → WantedBreakpointsState → Board → List ConditionalBreakpoint
+program_conditions p kept b =
+    let path = p.launch.program in
+    conditional_with (number_of path kept.lists) (lines_at path kept.lists) (take 256 kept.functions) b
+
+-- For each board that the lab represents: it was armed so, and these are its breakpoints with conditions.
+abbrev pub ArmsAs : (Board → Board) → (Board → List ConditionalBreakpoint) → LabState
+    → Result (List ConditionalBreakpoint) AllocError → LabState
+    → Type 0
+ArmsAs armed conditional old result new = (b : Board) → RepresentsBoard old b
+    → IfOk result (λ points. (points ≡ conditional b) × RepresentsBoard new (armed b))

@@ -9,8 +9,8 @@ ghost use Rattle.dap_launch.specs.Programs.{program_labels};
 
 use crate::program::{LoadedProgram, Program, labels_for};
 use base_text::sequence::Sequence;
-use dap_editor::message::{BreakpointNote, PlacedBreakpoint};
-use dap_editor::request::FunctionBreakpoint;
+use dap_editor::request::{FunctionBreakpoint, LineBreakpoint};
+use dap_messages::message::{BreakpointNote, PlacedBreakpoint};
 use dap_points::changes::changed_points;
 use dap_points::placed::{other_points, unlaunched_labels};
 use dap_points::points::{SourceLines, WantedBreakpoints};
@@ -74,6 +74,25 @@ pub fn labels_where(
     }
 }
 
+/// A copy of breakpoints on lines.
+pub fn copy_lines(
+    alloc: Global,
+    lines: &[LineBreakpoint],
+) -> Result<Sequence<LineBreakpoint>, AllocError>
+    ensures { IfOk result (λ copies. copies ≡ lines.now) }
+{
+    let mut copies = Sequence::new(alloc);
+    for breakpoint in lines {
+        let condition = breakpoint.condition.clone()?;
+        copies.push(LineBreakpoint {
+            line: breakpoint.line,
+            condition,
+            is_plain: breakpoint.is_plain,
+        })?;
+    }
+    Ok(copies)
+}
+
 /// A copy of breakpoints at labels.
 pub fn copy_functions(
     alloc: Global,
@@ -84,8 +103,10 @@ pub fn copy_functions(
     let mut copies = Sequence::new(alloc);
     for function in functions {
         let name = function.name.clone()?;
+        let condition = function.condition.clone()?;
         copies.push(FunctionBreakpoint {
             name,
+            condition,
             is_plain: function.is_plain,
         })?;
     }

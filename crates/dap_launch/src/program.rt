@@ -4,15 +4,18 @@ ghost use Rattle.lab_core.specs.Board.{Board};
 ghost use Rattle.lab_core.specs.Labs.{RepresentsBoard};
 ghost use Rattle.dap_program.specs.Boards.{begin_run};
 ghost use Rattle.dap_launch.specs.Programs.{pauses, with_input, begun_board, begun_if, board_if};
-ghost use Rattle.dap_launch.specs.Programs.{program_lines, labels_for, armed_with, program_board};
+ghost use Rattle.dap_launch.specs.Programs.{program_lines, labels_for, conditional_with, armed_with, ArmsAs};
+ghost use Rattle.dap_launch.specs.Programs.{program_conditions, program_board};
 
 use base_text::latin::to_bytes;
 use base_text::sequence::Sequence;
-use dap_editor::message::PlacedBreakpoint;
 use dap_editor::request::{FunctionBreakpoint, Launch, LineBreakpoint};
+use dap_lines::conditions::conditional_points;
+use dap_messages::message::PlacedBreakpoint;
 use dap_points::points::WantedBreakpoints;
 use dap_program::breakpoints::{arm, labels_behind, lines_on};
 use dap_program::change::{begin, begin_stopped, change};
+use dap_slice::conditions::ConditionalBreakpoints;
 use lab_core::answer::End;
 use lab_core::event::Event;
 use lab_core::lab::Lab;
@@ -151,7 +154,8 @@ pub fn labels_for(
 }
 
 /// Makes a program's board stop on these lines of the program, which is the source with this number, and at
-/// these labels. If memory runs out the board stays as it was.
+/// these labels, and returns those breakpoints that have conditions. If memory runs out the board stays as it
+/// was.
 pub fn arm_with(
     alloc: Global,
     lab: &mut Lab,
@@ -159,28 +163,30 @@ pub fn arm_with(
     number: u32,
     lines: &[LineBreakpoint],
     functions: &[FunctionBreakpoint],
-) -> Result<(), AllocError>
+) -> Result<ConditionalBreakpoints, AllocError>
     requires bounds { (number ≤ 1025) × (length lines.now ≤ 256) × (length functions.now ≤ 256) }
-    ensures ok { (b : Board) → RepresentsBoard lab.old b → OnOk result
-        (RepresentsBoard lab.new (armed_with program.now number lines.now functions.now b)) }
+    ensures ok { ArmsAs (armed_with program.now number lines.now functions.now)
+        (conditional_with number lines.now functions.now) lab.old result lab.new }
     ensures err { OnErr result (lab.new ≡ lab.old) }
 {
     let lines = lines_on(alloc, lab, number, lines)?;
     let labels = labels_behind(alloc, lab, lines.as_slice(), functions)?;
+    let points = conditional_points(alloc, lab, lines.as_slice(), labels.as_slice())?;
     let path = &program.launch.program;
-    arm(alloc, lab, path, lines.as_slice(), labels.as_slice())
+    arm(alloc, lab, path, lines.as_slice(), labels.as_slice())?;
+    Ok(points)
 }
 
-/// Makes a program's board stop at the breakpoints that are kept for the program. If memory runs out the
-/// board stays as it was.
+/// Makes a program's board stop at the breakpoints that are kept for the program, and returns those that have
+/// conditions. If memory runs out the board stays as it was.
 pub fn arm_program(
     alloc: Global,
     lab: &mut Lab,
     program: &Program,
     points: &WantedBreakpoints,
-) -> Result<(), AllocError>
-    ensures ok { (b : Board) → RepresentsBoard lab.old b
-        → OnOk result (RepresentsBoard lab.new (program_board program.now points.now b)) }
+) -> Result<ConditionalBreakpoints, AllocError>
+    ensures ok { ArmsAs (program_board program.now points.now)
+        (program_conditions program.now points.now) lab.old result lab.new }
     ensures err { OnErr result (lab.new ≡ lab.old) }
 {
     let path = program.launch.program.as_str();

@@ -2,7 +2,7 @@
 ghost use Rattle.std.specs.Prelude.{◌≡◌, IfOk};
 
 use dap_answers::answer::Body;
-use dap_editor::message::{EditorBody, EditorOutcome};
+use dap_messages::message::{EditorBody, EditorOutcome};
 use dap_program::messages::FollowUp;
 use dap_program::refusals::refused;
 use std::alloc::{AllocError, Global};

@@ -7,7 +7,7 @@ use Rattle.dap_editor.specs.declared.request.RequestContent.{RequestContent}
 use Rattle.dap_history.specs.declared.goal.Goal.{Goal}
 use Rattle.dap_launch.specs.declared.file.FileText.{FileText}
 use Rattle.dap_program.specs.Refusals.{board_refusal}
-use Rattle.dap_program.specs.SliceEnds.{slice_end_within}
+use Rattle.dap_session.specs.Slices.{slice_end_in}
 use Rattle.dap_session.specs.States.{wants_slice}
 use Rattle.dap_session.specs.Turns.{Turn}
 use Rattle.dap_session.specs.Memory.{is_stopped}
@@ -143,7 +143,7 @@ pub record OfSlices (Q : RecordedTold → Type 0) (v : RecordedState) : Type 0 w
   pub plain : v.search ≡ None → v.recording ≡ None → wants_slice v.session ≡ true
       → Q (slice_of None v.session)
   pub recorded : (r : Recording) → v.search ≡ None → v.recording ≡ Some r → wants_slice v.session ≡ true
-      → Q (recorded_slice (slice_end_within (slice_limit r) v.session.board) r v.session)
+      → Q (recorded_slice (slice_end_in (slice_limit r) v.session) r v.session)
   pub searches : (goal : Goal) → v.search ≡ Some goal → Q (record { messages = []; state = v })
   pub finds : (goal : Goal) (r : Recording) → v.search ≡ Some goal → v.recording ≡ Some r
       → Q (found_from r goal v.session)

@@ -1,10 +1,11 @@
 -- A breakpoint that is told as verified is met.
 use Rattle.std.proofs.Common.{◌≡◌, ◌≤◌, ◌∙◌, ℕ, List, [], ◌∷◌, ◌++◌, length, map, take}
-use Rattle.std.proofs.Common.{Bool, true, false, ◌||◌}
-use Rattle.std.proofs.Common.{◌==◌, Some, refl, sym, ap, subst, ⊎_elim, arith}
-use Rattle.std.specs.List.{Contains, list_any}
+use Rattle.std.proofs.Common.{zero, Bool, true, false, ◌||◌}
+use Rattle.std.proofs.Common.{◌==◌, Option, Some, None, refl, sym, ap, subst, ⊎_elim, arith}
+use Rattle.std.specs.List.{Contains, list_any, filter_map, cons_option}
 use Rattle.std.proofs.lemmas.List.{length-map, take_all}
 use Rattle.std.proofs.lemmas.List.Elements.{Contains-append_cases, Contains-push_cases}
+use Rattle.std.proofs.lemmas.List.Elements.{Contains-append_left, Contains-append_right}
 use Rattle.std.proofs.lemmas.Bool.Decides.{nat_tests}
 use Rattle.base_text.specs.Bytes.{Text}
 use Rattle.lab_image.specs.declared.lists.BreakpointList.{BreakpointList}
@@ -14,14 +15,20 @@ use Rattle.lab_core.specs.declared.event.Event.TheVariants.{SetBreakpoints}
 use Rattle.lab_core.specs.Board.{Board}
 use Rattle.dap_editor.specs.declared.request.LineBreakpoint.{LineBreakpoint}
 use Rattle.dap_editor.specs.declared.request.FunctionBreakpoint.{FunctionBreakpoint}
+use Rattle.dap_messages.specs.declared.message.PlacedBreakpoint.{PlacedBreakpoint}
+use Rattle.dap_messages.specs.declared.message.GotoTarget.{GotoTarget}
+use Rattle.dap_expr.specs.declared.expression.Expression.{Expression}
+use Rattle.dap_expr.specs.Expressions.{expression_of}
 use Rattle.dap_points.specs.Boards.{wanted_lines}
 use Rattle.dap_points.proofs.BoardLemmas.{few_wanted, verified_is_wanted}
 use Rattle.dap_program.specs.Boards.{after}
 use Rattle.dap_program.specs.Breakpoints.{lines_on, labels_behind, found_label}
-use Rattle.dap_program.specs.CodeLines.{landed_at}
+use Rattle.dap_lines.specs.CodeLines.{landed_at}
+use Rattle.dap_lines.specs.Conditions.{breakpoint_at, conditional_on, conditional_point}
+use Rattle.dap_lines.specs.Conditions.{conditional_points}
 use Rattle.dap_launch.specs.declared.program.Program.{Program}
-use Rattle.dap_launch.specs.Programs.{armed_with}
-use Rattle.dap_laws.specs.Points.{IsVerified, BeginsOn}
+use Rattle.dap_launch.specs.Programs.{armed_with, conditional_with}
+use Rattle.dap_laws.specs.Points.{IsVerified, BeginsOn, IsTold, HasCondition, at_target}
 
 -- ---- lists of lines
 
@@ -85,7 +92,8 @@ verified_met p number lines functions b line few one address begins =
     let few_all : length all ≤ 256 =
     few_wanted number (map (landed_at b) lines) (map (found_label b) functions) landed in
     let wanted : Contains all line =
-    verified_is_wanted on_lines at_labels one.point line one.told one.is_verified one.on in
+    verified_is_wanted on_lines at_labels one.point line one.told one.is_verified one.plain
+    one.on in
     let armed : (armed_with p number lines functions b).breakpoints
     ≡ with_lines begins.number all b.breakpoints =
     set_lines p.launch.program (take 256 all) b begins.number begins.text begins.source
@@ -93,3 +101,52 @@ verified_met p number lines functions b line few one address begins =
     ap (λ o. is_met_by (armed_with p number lines functions b).breakpoints o) begins.origin
     ∙ (ap (λ lists. has_breakpoint lists begins.number line) armed
     ∙ in_lists begins.number all line b.breakpoints wanted)
+
+-- ---- conditions
+
+at_head : {B : Type 0} (found : Option B) (others : List B) (y : B) → found ≡ Some y
+    → Contains (cons_option found others) y
+at_head None others y is = absurd cc
+at_head (Some z) others y is = let same : z ≡ y = cc in (zero, omega arith, same)
+
+later_on : {B : Type 0} (found : Option B) (others : List B) (y : B) → Contains others y
+    → Contains (cons_option found others) y
+later_on None others y has = has
+later_on (Some z) others y has = Contains-append_right (z ∷ []) others y has
+
+-- what a function makes of an item is among what it makes of all
+made_of : {A B : Type 0} (f : A → Option B) (xs : List A) (x : A) (y : B) → Contains xs x → f x ≡ Some y
+    → Contains (filter_map f xs) y
+made_of f [] x y has is = absurd (omega (arith, has.1))
+made_of f (z ∷ xs) x y has is =
+    ⊎_elim
+    (λ alone. ⊎_elim
+    (λ none. absurd (omega (arith, none.1)))
+    (λ same. at_head (f z) (filter_map f xs) y (ap f same ∙ is))
+    (Contains-push_cases [] z x alone))
+    (λ behind. later_on (f z) (filter_map f xs) y (made_of f xs x y behind is))
+    (Contains-append_cases (z ∷ []) xs x has)
+
+made_at : (b : Board) (point : PlacedBreakpoint) (target : GotoTarget) (condition : Expression)
+    → HasCondition b point target condition
+    → conditional_point b point ≡ Some (at_target target condition)
+made_at b point target condition has =
+    ap (λ text. conditional_on b text point.line) has.is
+    ∙ (ap (λ t. breakpoint_at t (expression_of has.text)) has.begins
+    ∙ ap (breakpoint_at (Some target)) has.read)
+
+pub condition_asked : (number : ℕ) (lines : List LineBreakpoint) (functions : List FunctionBreakpoint)
+    (b : Board) (point : PlacedBreakpoint) (target : GotoTarget) (condition : Expression)
+    → IsTold number lines functions b point → HasCondition b point target condition
+    → Contains (conditional_with number lines functions b) (at_target target condition)
+condition_asked number lines functions b point target condition told has =
+    let on_lines = lines_on b number lines in
+    let at_labels = labels_behind b on_lines functions in
+    let there = made_at b point target condition has in
+    let found = at_target target condition in
+    ⊎_elim
+    (λ on_line. Contains-append_left (conditional_points b on_lines) (conditional_points b at_labels) found
+    (made_of (conditional_point b) on_lines point found on_line there))
+    (λ at_label. Contains-append_right (conditional_points b on_lines) (conditional_points b at_labels) found
+    (made_of (conditional_point b) at_labels point found at_label there))
+    (Contains-append_cases on_lines at_labels point told)

@@ -4,7 +4,7 @@ use Rattle.std.proofs.Common.{Option, Some, None, if◌then◌else◌, refl, sym
 use Rattle.std.specs.Prelude.{option_and_then}
 use Rattle.lab_core.specs.declared.answer.SliceOutcome.{SliceOutcome}
 use Rattle.lab_core.specs.Slices.{after_steps}
-use Rattle.lab_core.proofs.LawLemmas.{slice_within}
+use Rattle.dap_slice.proofs.SliceLemmas.{end_within}
 use Rattle.dap_editor.specs.declared.request.RequestContent.{RequestContent}
 use Rattle.dap_history.specs.declared.input.Input.{Input as RunInput}
 use Rattle.dap_history.specs.Logs.{up_to}
@@ -190,7 +190,9 @@ sliced finds v of =
       idles = λ none is. of;
       plain = λ none is wants. tt;
       recorded = λ r none is wants.
-          made _ r v.session (slice_within (slice_limit r) v.session.board) (recording_in v r is of);
+          made _ r v.session
+          (end_within v.session.settings.conditional (slice_limit r) v.session.board)
+          (recording_in v r is of);
       searches = λ goal on. of;
       finds = λ goal r on is.
           put_back r (found_by goal r v.session.board) v.session (found_within goal r v.session.board)

@@ -10,12 +10,12 @@ use Rattle.lab_core.specs.declared.run_state.RunState.TheVariants.{NoRun, Runnin
 use Rattle.lab_core.specs.Board.{Board}
 use Rattle.lab_core.specs.Events.{EventResult}
 use Rattle.dap_answers.specs.declared.answer.StopReason.TheVariants.{Pause as ByPause}
-use Rattle.dap_editor.specs.declared.message.EditorEvent.{EditorEvent}
-use Rattle.dap_editor.specs.declared.message.EditorEvent.TheVariants as event
-use Rattle.dap_editor.specs.declared.message.EditorStop.{EditorStop}
-use Rattle.dap_editor.specs.declared.message.EditorStop.TheVariants.{Board as AtBoard}
-use Rattle.dap_editor.specs.declared.message.Message.{Message}
-use Rattle.dap_editor.specs.declared.message.Message.TheVariants as message
+use Rattle.dap_messages.specs.declared.message.EditorEvent.{EditorEvent}
+use Rattle.dap_messages.specs.declared.message.EditorEvent.TheVariants as event
+use Rattle.dap_messages.specs.declared.message.EditorStop.{EditorStop}
+use Rattle.dap_messages.specs.declared.message.EditorStop.TheVariants.{Board as AtBoard}
+use Rattle.dap_messages.specs.declared.message.Message.{Message}
+use Rattle.dap_messages.specs.declared.message.Message.TheVariants as message
 use Rattle.dap_editor.specs.declared.request.EditorCommand.TheVariants as editor
 use Rattle.dap_editor.specs.declared.request.EvaluateContext.TheVariants as context
 use Rattle.dap_editor.specs.declared.request.RequestContent.{RequestContent}
@@ -32,7 +32,7 @@ use Rattle.dap_launch.specs.declared.program.Phase.TheVariants as phase
 use Rattle.dap_launch.specs.declared.program.Program.{Program}
 use Rattle.dap_launch.specs.Lives.{is_over, is_live, released_phase, released_program}
 use Rattle.dap_program.specs.Messages.{as_messages}
-use Rattle.dap_program.specs.SliceEnds.{slice_end_within}
+use Rattle.dap_session.specs.Slices.{slice_end_in}
 use Rattle.dap_program.proofs.SliceLemmas.{told-append}
 use Rattle.dap_session.specs.States.{SessionState, is_running, wants_slice}
 use Rattle.dap_session.specs.Memory.{is_stopped}
@@ -255,7 +255,7 @@ follows_slice finds v stands =
       idles = λ none is. (still s s stands.reached refl).follows;
       plain = λ none is wants. follows_sliced s stands.reached;
       recorded = λ r none is wants.
-          follows_recorded (slice_end_within (slice_limit r) s.board) r s stands.reached wants;
+          follows_recorded (slice_end_in (slice_limit r) s) r s stands.reached wants;
       searches = λ goal on. (still s s stands.reached refl).follows;
       finds = λ goal r on is.
           follows_stopped _ (board_at r.start r.log (found_by goal r s.board)) s stands.reached

@@ -8,14 +8,13 @@ use Rattle.base_text.specs.Bytes.{Bytes}
 use Rattle.lab_core.specs.declared.answer.SliceOutcome.{SliceOutcome}
 use Rattle.lab_core.specs.Board.{Board}
 use Rattle.lab_core.specs.Slices.{after_steps}
-use Rattle.lab_core.specs.SliceEnds.{slice_end}
-use Rattle.lab_core.proofs.LawLemmas.{slice_within}
-use Rattle.dap_editor.specs.declared.message.EditorEvent.TheVariants as event
-use Rattle.dap_editor.specs.declared.message.Message.{Message}
-use Rattle.dap_editor.specs.declared.message.Message.TheVariants as message
+use Rattle.dap_session.specs.Slices.{slice_end_in}
+use Rattle.dap_slice.proofs.SliceLemmas.{end_within}
+use Rattle.dap_messages.specs.declared.message.EditorEvent.TheVariants as event
+use Rattle.dap_messages.specs.declared.message.Message.{Message}
+use Rattle.dap_messages.specs.declared.message.Message.TheVariants as message
 use Rattle.dap_editor.specs.declared.request.RequestContent.{RequestContent}
 use Rattle.dap_launch.specs.declared.file.FileText.{FileText}
-use Rattle.dap_program.specs.SliceEnds.{slice_end_within}
 use Rattle.dap_session.specs.States.{SessionState, wants_slice}
 use Rattle.dap_session.specs.Slices as session
 use Rattle.dap_session.specs.Slices.{caller_of, slicing}
@@ -51,7 +50,7 @@ answered_slice finds v =
       idles = λ none is. refl;
       plain = λ none is wants. answered_sliced v.session;
       recorded = λ r none is wants.
-          answered_new (is_behind r) (slice_end_within (slice_limit r) v.session.board) v.session;
+          answered_new (is_behind r) (slice_end_in (slice_limit r) v.session) v.session;
       searches = λ goal on. refl;
       finds = λ goal r on is. refl;
     })
@@ -131,9 +130,9 @@ written_new false r p s isn't few =
     ∙ ap (λ again. written_behind again p s.board) (sym none))
 
 written_plain : (s : SessionState) → wants_slice s ≡ true
-    → console_of (session.slice_told s).messages ≡ written_in (slice_end s.board) s.board
+    → console_of (session.slice_told s).messages ≡ written_in (slice_end_in 4096 s) s.board
 unfolding session.slice_told
-written_plain s wants = rw wants (shown_slicing (slice_end s.board) s)
+written_plain s wants = rw wants (shown_slicing (slice_end_in 4096 s) s)
 
 written_slice : (finds : Bool) (v : RecordedState)
     → console_of (slice_told finds v).messages ≡ written_by (slice finds) v
@@ -142,8 +141,8 @@ written_slice finds v =
       idles = λ none isn't. rw (none, isn't) refl;
       plain = λ none is wants. rw (none, wants, is) (written_plain v.session wants);
       recorded = λ r none is wants. rw (none, wants, is)
-          (written_new (is_behind r) r (slice_end_within (slice_limit r) v.session.board) v.session refl
-          (slice_within (slice_limit r) v.session.board));
+          (written_new (is_behind r) r (slice_end_in (slice_limit r) v.session) v.session refl
+          (end_within v.session.settings.conditional (slice_limit r) v.session.board));
       searches = λ goal on. rw on refl;
       finds = λ goal r on is. rw on refl;
     })

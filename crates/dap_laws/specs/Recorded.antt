@@ -6,8 +6,8 @@ use Rattle.base_text.specs.Bytes.{Bytes, Text}
 use Rattle.lab_core.specs.declared.answer.End.{End}
 use Rattle.lab_core.specs.declared.answer.SliceOutcome.TheVariants as outcome
 use Rattle.lab_core.specs.Slices.{after_steps}
-use Rattle.lab_core.specs.SliceEnds.{slice_end}
-use Rattle.dap_editor.specs.declared.message.EditorOutcome.TheVariants.{Refused}
+use Rattle.dap_session.specs.Slices.{slice_end_in}
+use Rattle.dap_messages.specs.declared.message.EditorOutcome.TheVariants.{Refused}
 use Rattle.dap_history.specs.declared.goal.Goal.{Goal}
 use Rattle.dap_history.specs.Logs.{Ascends, up_to}
 use Rattle.dap_history.specs.Runs.{board_at}
@@ -16,7 +16,6 @@ use Rattle.dap_launch.specs.Lives.{is_live}
 use Rattle.dap_program.specs.declared.messages.RequestId.{RequestId}
 use Rattle.dap_program.specs.declared.messages.FollowUp.TheVariants.{Stopped}
 use Rattle.dap_program.specs.Messages.{as_messages, events_of}
-use Rattle.dap_program.specs.SliceEnds.{slice_end_within}
 use Rattle.dap_session.specs.States.{SessionState, wants_slice, with_waits, has_watch_commands}
 use Rattle.dap_session.specs.Rewinds.{can_go_back, rewound}
 use Rattle.dap_session.specs.Slices.{Told, caller_of}
@@ -90,10 +89,10 @@ callers_asking inputs = filter_map request_in inputs
 -- The bytes that the new steps of a slice write by OUT 1. A run that went back first makes again the steps
 -- whose output was told.
 abbrev pub written_of : Option Recording → SessionState → Bytes
-written_of None s = written_in (slice_end s.board) s.board
+written_of None s = written_in (slice_end_in 4096 s) s.board
 written_of (Some r) s =
     let again = r.told - r.count in
-    let end = slice_end_within (slice_limit r) s.board in
+    let end = slice_end_in (slice_limit r) s in
     written_in (end.0 - again, end.1) (after_steps again s.board)
 
 -- a search writes nothing
@@ -155,8 +154,8 @@ pub record EndsNext (how : End) (r : Recording) (v : RecordedState) : Type 0 whe
   pub search : v.search ≡ None
   pub goes_on : wants_slice v.session ≡ true
   pub is_initialized : v.session.settings.is_initialized ≡ true
-  pub ends : (slice_end_within (slice_limit r) v.session.board).1 ≡ outcome.End how
-  pub alone : up_to (r.count + (slice_end_within (slice_limit r) v.session.board).0) (inputs_ahead r) ≡ []
+  pub ends : (slice_end_in (slice_limit r) v.session).1 ≡ outcome.End how
+  pub alone : up_to (r.count + (slice_end_in (slice_limit r) v.session).0) (inputs_ahead r) ≡ []
 
 -- the messages, and the session after them
 abbrev pub session_told : RecordedTold → Told

@@ -10,7 +10,7 @@ ghost use Rattle.dap_editor.specs.declared.request.RequestContent.{RequestConten
 ghost use Rattle.dap_history.specs.declared.goal.Goal.{Goal};
 ghost use Rattle.dap_launch.specs.declared.file.FileText.{FileText};
 ghost use Rattle.dap_program.specs.Messages.{response, as_messages};
-ghost use Rattle.dap_program.specs.SliceEnds.{after_slice_within};
+ghost use Rattle.dap_session.specs.Slices.{after_slice_in};
 ghost use Rattle.dap_session.specs.Slices.{caller_of};
 ghost use Rattle.dap_session.specs.Laws.{callers_answered, console_of, shown_by, shown_for, SameParts};
 ghost use Rattle.dap_session.specs.Laws.{EndIsTold};
@@ -112,6 +112,6 @@ pub fn output_is_told_once()
 /// trace are as the run left them, and a run that is held there has that exit code once it goes on.
 pub fn end_is_told_as_it_was()
     ensures { (how : End) (r : Recording) (v : RecordedState) (finds : Bool) → EndsNext how r v
-        → EndIsTold how v.session (after_slice_within (slice_limit r) v.session.board)
+        → EndIsTold how v.session (after_slice_in (slice_limit r) v.session)
         (session_told (slice_told finds v)) }
 {}

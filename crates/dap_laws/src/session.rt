@@ -2,7 +2,7 @@
 ghost use Rattle.std.specs.Prelude.{◌≡◌, [], ◌∷◌, List, Option, true, false};
 ghost use Rattle.lab_core.specs.declared.answer.End.{End};
 ghost use Rattle.lab_core.specs.declared.answer.SliceOutcome.TheVariants as outcome;
-ghost use Rattle.lab_core.specs.SliceEnds.{slice_end, after_slice};
+ghost use Rattle.dap_session.specs.Slices.{slice_end_in, after_slice_in};
 ghost use Rattle.base_text.specs.Bytes.{Text};
 ghost use Rattle.dap_editor.specs.declared.request.RequestContent.TheVariants as asked;
 ghost use Rattle.dap_editor.specs.declared.request.EditorCommand.TheVariants as editor;
@@ -63,8 +63,8 @@ pub fn end_is_told()
 /// as the run left them, and a run that is held there has that exit code once it goes on.
 pub fn end_is_told_as_it_was()
     ensures { (how : End) (s : SessionState) → wants_slice s ≡ true → s.settings.is_initialized ≡ true
-        → (slice_end s.board).1 ≡ outcome.End how
-        → EndIsTold how s (after_slice s.board) (slice_told s) }
+        → (slice_end_in 4096 s).1 ≡ outcome.End how
+        → EndIsTold how s (after_slice_in 4096 s) (slice_told s) }
 {}
 
 /// A request that is refused leaves the board, the program and the breakpoints as they were.

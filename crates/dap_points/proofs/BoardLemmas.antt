@@ -1,17 +1,21 @@
 -- How many lines a board stops at, and which.
 use Rattle.std.proofs.Common.{◌≡◌, ◌≤◌, ℕ, zero, suc, ◌+◌, ◌-◌, ◌==◌, List, [], ◌∷◌, ◌++◌, length, Bool}
-use Rattle.std.proofs.Common.{true, false, if◌then◌else◌, Option, Some, None, refl, ap, ◌∙◌, ⊎_elim, arith}
+use Rattle.std.proofs.Common.{true, false, if◌then◌else◌, Option, Some, None, is_none, refl, ap, ◌∙◌}
+use Rattle.std.proofs.Common.{⊎_elim, arith}
 use Rattle.std.proofs.Common.{length-append}
 use Rattle.std.specs.List.{cons_option, Contains}
 use Rattle.std.proofs.lemmas.List.Elements.{Contains-append_left, Contains-append_right}
 use Rattle.std.proofs.lemmas.List.Elements.{Contains-append_cases, Contains-push_cases}
-use Rattle.dap_editor.specs.declared.message.BreakpointNote.TheVariants.{TooMany}
-use Rattle.dap_editor.specs.declared.message.PlacedBreakpoint.{PlacedBreakpoint}
+use Rattle.base_text.specs.Bytes.{Text}
+use Rattle.dap_messages.specs.declared.message.BreakpointNote.{BreakpointNote}
+use Rattle.dap_messages.specs.declared.message.BreakpointNote.TheVariants.{TooMany}
+use Rattle.dap_messages.specs.declared.message.PlacedBreakpoint.{PlacedBreakpoint}
 use Rattle.dap_points.specs.declared.placed.LandedLine.{LandedLine}
 use Rattle.dap_points.specs.declared.placed.FoundLabel.{FoundLabel}
 use Rattle.dap_points.specs.Placed.{id_at, met_at, unmet_at, line_points, label_point, room_after}
 use Rattle.dap_points.specs.Placed.{label_points}
-use Rattle.dap_points.specs.Boards.{verified_line, verified_lines, room_behind, wanted_lines}
+use Rattle.dap_points.specs.Boards.{verified_line, verified_lines, room_behind, plain_line, plain_lines}
+use Rattle.dap_points.specs.Boards.{wanted_lines}
 
 one_at_most : (line : Option ℕ) (lines : List ℕ) (n : ℕ) → length lines ≤ n
     → length (cons_option line lines) ≤ n + 1
@@ -38,28 +42,50 @@ same_number number index [] = omega arith
 same_number number index (l ∷ ls) = let e = same_number number (index + 1) ls in omega (arith, e)
 
 -- a verified label takes room from the others
-one_found : (is_full : Bool) (id room line : ℕ) (others : ℕ → List PlacedBreakpoint)
+one_found : (is_full : Bool) (id room line : ℕ) (condition : Option Text)
+    (others : ℕ → List PlacedBreakpoint)
     → ((r : ℕ) → length (verified_lines (others r)) ≤ r) → (is_full ≡ false → 1 ≤ room)
-    → let p = if is_full then unmet_at id (Some line) TooMany else met_at id line None in
+    → let p = if is_full then unmet_at id (Some line) TooMany else met_at id line condition None in
     length (verified_lines (p ∷ others (room_after room p))) ≤ room
-one_found true id room line others few some = few room
-one_found false id room line others few some =
+one_found true id room line condition others few some = few room
+one_found false id room line condition others few some =
     one_more line (verified_lines (others (room - 1))) room (some refl) (few (room - 1))
 
-one_label : (id room : ℕ) (line : Option ℕ) (is_plain : Bool) (others : ℕ → List PlacedBreakpoint)
+one_label : (id room : ℕ) (line : Option ℕ) (condition : Option Text) (objection : Option BreakpointNote)
+    (others : ℕ → List PlacedBreakpoint)
     → ((r : ℕ) → length (verified_lines (others r)) ≤ r)
-    → let p = label_point id room (record { line = line; is_plain = is_plain }) in
+    → let p = label_point id room (record {
+      line = line;
+      condition = condition;
+      objection = objection;
+    }) in
     length (verified_lines (p ∷ others (room_after room p))) ≤ room
-one_label id room line false others few = few room
-one_label id room None true others few = few room
-one_label id room (Some line) true others few = one_found (room == 0) id room line others few (has_room room)
+one_label id room line condition (Some why) others few = few room
+one_label id room None condition None others few = few room
+one_label id room (Some line) condition None others few =
+    one_found (room == 0) id room line condition others few (has_room room)
 
 few_labels : (room index : ℕ) (ls : List FoundLabel)
     → length (verified_lines (label_points room index ls)) ≤ room
 few_labels room index [] = omega arith
 few_labels room index (l ∷ ls) =
-    one_label (id_at 0 index) room l.line l.is_plain (λ r. label_points r (index + 1) ls)
+    one_label (id_at 0 index) room l.line l.condition l.objection (λ r. label_points r (index + 1) ls)
     (λ r. few_labels r (index + 1) ls)
+
+-- those without a condition are some of them
+fewer_plain : (condition : Option Text) (line : Option ℕ) (plain verified : List ℕ)
+    → length plain ≤ length verified
+    → length (cons_option (if is_none condition then line else None) plain)
+    ≤ length (cons_option line verified)
+fewer_plain None None plain verified fewer = fewer
+fewer_plain None (Some line) plain verified fewer = omega (arith, fewer)
+fewer_plain (Some condition) None plain verified fewer = fewer
+fewer_plain (Some condition) (Some line) plain verified fewer = omega (arith, fewer)
+
+few_plain : (ps : List PlacedBreakpoint) → length (plain_lines ps) ≤ length (verified_lines ps)
+few_plain [] = omega arith
+few_plain (p ∷ ps) =
+    fewer_plain p.condition (verified_line p) (plain_lines ps) (verified_lines ps) (few_plain ps)
 
 pub few_wanted : (number : ℕ) (ls : List LandedLine) (labels : List FoundLabel) → length ls ≤ 256
     → let lines = line_points number 0 ls in
@@ -70,8 +96,10 @@ few_wanted number ls labels few =
     let on_lines = few_verified lines in
     let count = same_number number 0 ls in
     let beside = few_labels (room_behind lines) 0 labels in
-    let both = length-append (verified_lines lines) (verified_lines at_labels) in
-    omega (arith, few, on_lines, count, beside, both)
+    let plain = few_plain lines in
+    let plain_labels = few_plain at_labels in
+    let both = length-append (plain_lines lines) (plain_lines at_labels) in
+    omega (arith, few, on_lines, count, beside, plain, plain_labels, both)
 
 -- ---- each verified line is among them
 
@@ -86,30 +114,32 @@ later None others line has = has
 later (Some l) others line has = Contains-append_right (l ∷ []) others line has
 
 has_line : (ps : List PlacedBreakpoint) (p : PlacedBreakpoint) (line : ℕ) → Contains ps p
-    → verified_line p ≡ Some line → Contains (verified_lines ps) line
+    → plain_line p ≡ Some line → Contains (plain_lines ps) line
 has_line [] p line has is = absurd (omega (arith, has.1))
 has_line (q ∷ ps) p line has is =
     ⊎_elim
     (λ alone. ⊎_elim
     (λ none. absurd (omega (arith, none.1)))
-    (λ same. at_head (verified_line q) (verified_lines ps) line (ap verified_line same ∙ is))
+    (λ same. at_head (plain_line q) (plain_lines ps) line (ap plain_line same ∙ is))
     (Contains-push_cases [] q p alone))
-    (λ has_later. later (verified_line q) (verified_lines ps) line (has_line ps p line has_later is))
+    (λ has_later. later (plain_line q) (plain_lines ps) line (has_line ps p line has_later is))
     (Contains-append_cases (q ∷ []) ps p has)
 
-line_of : (is_verified : Bool) (found : Option ℕ) (line : ℕ) → is_verified ≡ true → found ≡ Some line
-    → (if is_verified then found else None) ≡ Some line
-line_of true found line verified is = is
-line_of false found line verified is = absurd cc
+line_of : (is_verified : Bool) (condition : Option Text) (found : Option ℕ) (line : ℕ)
+    → is_verified ≡ true → condition ≡ None → found ≡ Some line
+    → (if is_none condition then (if is_verified then found else None) else None) ≡ Some line
+line_of true None found line verified plain is = is
+line_of true (Some condition) found line verified plain is = absurd cc
+line_of false condition found line verified plain is = absurd cc
 
 pub verified_is_wanted : (lines labels : List PlacedBreakpoint) (p : PlacedBreakpoint) (line : ℕ)
-    → Contains (lines ++ labels) p → p.is_verified ≡ true → p.line ≡ Some line
+    → Contains (lines ++ labels) p → p.is_verified ≡ true → p.condition ≡ None → p.line ≡ Some line
     → Contains (wanted_lines lines labels) line
-verified_is_wanted lines labels p line has verified is =
-    let here = line_of p.is_verified p.line line verified is in
+verified_is_wanted lines labels p line has verified plain is =
+    let here = line_of p.is_verified p.condition p.line line verified plain is in
     ⊎_elim
-    (λ on_line. Contains-append_left (verified_lines lines) (verified_lines labels) line
+    (λ on_line. Contains-append_left (plain_lines lines) (plain_lines labels) line
     (has_line lines p line on_line here))
-    (λ at_label. Contains-append_right (verified_lines lines) (verified_lines labels) line
+    (λ at_label. Contains-append_right (plain_lines lines) (plain_lines labels) line
     (has_line labels p line at_label here))
     (Contains-append_cases lines labels p has)

@@ -1,7 +1,7 @@
 -- The lines at which a board stops.
-use Rattle.std.specs.Prelude.{ℕ, ◌-◌, List, ◌++◌, length, Option, None, if◌then◌else◌}
+use Rattle.std.specs.Prelude.{ℕ, ◌-◌, List, ◌++◌, length, Option, None, is_none, if◌then◌else◌}
 use Rattle.std.specs.List.{filter_map}
-use Rattle.dap_editor.specs.declared.message.PlacedBreakpoint.{PlacedBreakpoint}
+use Rattle.dap_messages.specs.declared.message.PlacedBreakpoint.{PlacedBreakpoint}
 
 -- the line of a verified breakpoint
 abbrev pub verified_line : PlacedBreakpoint → Option ℕ
@@ -14,6 +14,13 @@ verified_lines points = filter_map verified_line points
 abbrev pub room_behind : List PlacedBreakpoint → ℕ
 room_behind lines = 256 - length (verified_lines lines)
 
+-- A board stops only at breakpoints without a condition.
+abbrev pub plain_line : PlacedBreakpoint → Option ℕ
+plain_line p = if is_none p.condition then verified_line p else None
+
+abbrev pub plain_lines : List PlacedBreakpoint → List ℕ
+plain_lines points = filter_map plain_line points
+
 -- those on lines, then those at labels
 abbrev pub wanted_lines : List PlacedBreakpoint → List PlacedBreakpoint → List ℕ
-wanted_lines lines labels = verified_lines lines ++ verified_lines labels
+wanted_lines lines labels = plain_lines lines ++ plain_lines labels

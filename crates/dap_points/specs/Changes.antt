@@ -2,16 +2,17 @@
 use Rattle.std.specs.Prelude.{◌==◌, List, [], ◌∷◌, ◌++◌, drop, Bool, true, false, ◌&&◌, not}
 use Rattle.std.specs.Prelude.{Option, Some, None, if◌then◌else◌}
 use Rattle.std.specs.Str.{bytes_eq}
-use Rattle.dap_editor.specs.declared.message.BreakpointNote.{BreakpointNote}
-use Rattle.dap_editor.specs.declared.message.BreakpointNote.TheVariants as note
-use Rattle.dap_editor.specs.declared.message.PlacedBreakpoint.{PlacedBreakpoint}
+use Rattle.dap_messages.specs.declared.message.BreakpointNote.{BreakpointNote}
+use Rattle.dap_messages.specs.declared.message.BreakpointNote.TheVariants as note
+use Rattle.dap_messages.specs.declared.message.PlacedBreakpoint.{PlacedBreakpoint}
 
 abbrev pub is_same_note : BreakpointNote → BreakpointNote → Bool
 is_same_note (note.Moved from) (note.Moved from') = from == from'
 is_same_note (note.NoCode line) (note.NoCode line') = line == line'
 is_same_note note.NotLaunched note.NotLaunched = true
 is_same_note (note.OtherProgram path) (note.OtherProgram path') = bytes_eq path path'
-is_same_note note.Conditional note.Conditional = true
+is_same_note (note.Condition why) (note.Condition why') = bytes_eq why why'
+is_same_note note.NotSupported note.NotSupported = true
 is_same_note note.NoLabel note.NoLabel = true
 is_same_note note.TooMany note.TooMany = true
 is_same_note n n' = false

@@ -2,11 +2,12 @@
 -- Protocol, "Breakpoint").
 use Rattle.std.specs.Prelude.{ℕ, ◌+◌, ◌*◌, ◌-◌, ◌==◌, List, [], ◌∷◌, Bool, true, false, if◌then◌else◌}
 use Rattle.std.specs.Prelude.{Option, Some, None}
+use Rattle.base_text.specs.Bytes.{Text}
 use Rattle.dap_editor.specs.declared.request.LineBreakpoint.{LineBreakpoint}
 use Rattle.dap_editor.specs.declared.request.FunctionBreakpoint.{FunctionBreakpoint}
-use Rattle.dap_editor.specs.declared.message.BreakpointNote.{BreakpointNote}
-use Rattle.dap_editor.specs.declared.message.BreakpointNote.TheVariants as note
-use Rattle.dap_editor.specs.declared.message.PlacedBreakpoint.{PlacedBreakpoint}
+use Rattle.dap_messages.specs.declared.message.BreakpointNote.{BreakpointNote}
+use Rattle.dap_messages.specs.declared.message.BreakpointNote.TheVariants as note
+use Rattle.dap_messages.specs.declared.message.PlacedBreakpoint.{PlacedBreakpoint}
 use Rattle.dap_points.specs.declared.placed.LandedLine.{LandedLine}
 use Rattle.dap_points.specs.declared.placed.FoundLabel.{FoundLabel}
 
@@ -15,27 +16,32 @@ abbrev pub id_at : ℕ → ℕ → ℕ
 id_at number index = 256 * number + (index + 1)
 
 -- it is met on this line
-abbrev pub met_at : ℕ → ℕ → Option BreakpointNote → PlacedBreakpoint
-met_at id line n = record { id = id; line = Some line; is_verified = true; note = n }
+abbrev pub met_at : ℕ → ℕ → Option Text → Option BreakpointNote → PlacedBreakpoint
+met_at id line condition n =
+    record { id = id; line = Some line; condition = condition; is_verified = true; note = n }
 
 -- it is never met
 abbrev pub unmet_at : ℕ → Option ℕ → BreakpointNote → PlacedBreakpoint
-unmet_at id line why = record { id = id; line = line; is_verified = false; note = Some why }
+unmet_at id line why =
+    record { id = id; line = line; condition = None; is_verified = false; note = Some why }
 
 -- ---- on lines of the program
 
 abbrev pub moved_note : ℕ → ℕ → Option BreakpointNote
 moved_note from line = if from == line then None else Some (note.Moved from)
 
--- a plain one, with the first line with code at or below its own
-abbrev pub landed_point : ℕ → ℕ → Option ℕ → PlacedBreakpoint
-landed_point id line None = unmet_at id (Some line) (note.NoCode line)
-landed_point id line (Some landing) = met_at id landing (moved_note line landing)
+-- at the first line with code at or below its own
+abbrev pub landed_point : ℕ → LandedLine → Option ℕ → PlacedBreakpoint
+landed_point id l None = unmet_at id (Some l.line) (note.NoCode l.line)
+landed_point id l (Some landing) = met_at id landing l.condition (moved_note l.line landing)
+
+-- unless there is something to object to it
+abbrev pub line_point_unless : Option BreakpointNote → ℕ → LandedLine → PlacedBreakpoint
+line_point_unless None id l = landed_point id l l.landing
+line_point_unless (Some why) id l = unmet_at id (Some l.line) why
 
 abbrev pub line_point : ℕ → LandedLine → PlacedBreakpoint
-line_point id l =
-    if l.asked.is_plain then landed_point id l.asked.line l.landing
-    else unmet_at id (Some l.asked.line) note.Conditional
+line_point id l = line_point_unless l.objection id l
 
 -- all of them, of which the first has this place
 abbrev pub line_points : ℕ → ℕ → List LandedLine → List PlacedBreakpoint
@@ -45,9 +51,9 @@ line_points number index (l ∷ ls) =
 
 -- ---- on lines of another source
 
--- why it isn't met, if it is plain
+-- why it isn't met, if all that it asks for is supported
 abbrev pub why_unmet : BreakpointNote → Bool → BreakpointNote
-why_unmet why is_plain = if is_plain then why else note.Conditional
+why_unmet why is_plain = if is_plain then why else note.NotSupported
 
 abbrev pub other_points : BreakpointNote → ℕ → ℕ → List LineBreakpoint → List PlacedBreakpoint
 other_points why number index [] = []
@@ -57,13 +63,19 @@ other_points why number index (b ∷ bs) =
 
 -- ---- at labels
 
--- with room for so many, a plain one at a label on this line, if the program has it
-abbrev pub at_label : ℕ → ℕ → Option ℕ → PlacedBreakpoint
-at_label id room None = unmet_at id None note.NoLabel
-at_label id room (Some line) = if room == 0 then unmet_at id (Some line) note.TooMany else met_at id line None
+-- with room for so many, at a label on this line, if the program has it
+abbrev pub at_label : ℕ → ℕ → Option Text → Option ℕ → PlacedBreakpoint
+at_label id room condition None = unmet_at id None note.NoLabel
+at_label id room condition (Some line) =
+    if room == 0 then unmet_at id (Some line) note.TooMany else met_at id line condition None
+
+-- unless there is something to object to it
+abbrev pub label_point_unless : Option BreakpointNote → ℕ → ℕ → FoundLabel → PlacedBreakpoint
+label_point_unless None id room l = at_label id room l.condition l.line
+label_point_unless (Some why) id room l = unmet_at id l.line why
 
 abbrev pub label_point : ℕ → ℕ → FoundLabel → PlacedBreakpoint
-label_point id room l = if l.is_plain then at_label id room l.line else unmet_at id l.line note.Conditional
+label_point id room l = label_point_unless l.objection id room l
 
 -- the room behind a breakpoint
 abbrev pub room_after : ℕ → PlacedBreakpoint → ℕ

@@ -1,16 +1,27 @@
 //! The lines at which a board stops.
 ghost use Rattle.std.specs.Prelude.{◌≡◌, ◌≤◌, ◌++◌, length, IfOk, OnOk, option_to_list};
-ghost use Rattle.dap_points.specs.Boards.{verified_line, verified_lines, room_behind, wanted_lines};
+ghost use Rattle.dap_points.specs.Boards.{verified_line, verified_lines, room_behind, plain_line};
+ghost use Rattle.dap_points.specs.Boards.{plain_lines, wanted_lines};
 
 use crate::points::MOST_POINTS;
 use base_text::sequence::Sequence;
-use dap_editor::message::PlacedBreakpoint;
+use dap_messages::message::PlacedBreakpoint;
 use std::alloc::{AllocError, Global};
 
 fn verified_line(point: &PlacedBreakpoint) -> Option<u32>
     ensures { result ≡ verified_line point.now }
 {
     if point.is_verified { point.line } else { None }
+}
+
+fn plain_line(point: &PlacedBreakpoint) -> Option<u32>
+    ensures { result ≡ plain_line point.now }
+{
+    if point.condition.is_none() {
+        verified_line(point)
+    } else {
+        None
+    }
 }
 
 // Adds a line, if there is one.
@@ -34,6 +45,17 @@ fn push_verified(lines: &mut Sequence<u32>, points: &[PlacedBreakpoint]) -> Resu
     Ok(())
 }
 
+fn push_plain(lines: &mut Sequence<u32>, points: &[PlacedBreakpoint]) -> Result<(), AllocError>
+    ensures { OnOk result (lines.new ≡ lines.old ++ plain_lines points.now) }
+{
+    let mut left = points;
+    while let Some((point, later)) = left.split_first() {
+        push_line(lines, plain_line(point))?;
+        left = later;
+    }
+    Ok(())
+}
+
 /// The number of labels for which there is room beside the breakpoints on lines.
 pub fn room_behind(alloc: Global, lines: &[PlacedBreakpoint]) -> Result<usize, AllocError>
     ensures { IfOk result (λ room. room ≡ room_behind lines.now) }
@@ -43,7 +65,7 @@ pub fn room_behind(alloc: Global, lines: &[PlacedBreakpoint]) -> Result<usize, A
     Ok(MOST_POINTS.saturating_sub(verified.len()))
 }
 
-/// The lines at which a board stops: of verified breakpoints on lines, then of those at labels.
+/// The lines at which a board stops: of verified breakpoints without conditions, first those on lines.
 pub fn wanted_lines(
     alloc: Global,
     lines: &[PlacedBreakpoint],
@@ -52,7 +74,7 @@ pub fn wanted_lines(
     ensures { IfOk result (λ all. all ≡ wanted_lines lines.now labels.now) }
 {
     let mut all = Sequence::new(alloc);
-    push_verified(&mut all, lines)?;
-    push_verified(&mut all, labels)?;
+    push_plain(&mut all, lines)?;
+    push_plain(&mut all, labels)?;
     Ok(all)
 }

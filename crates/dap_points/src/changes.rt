@@ -3,9 +3,9 @@ ghost use Rattle.std.specs.Prelude.{◌≡◌, ◌++◌, drop, IfOk, OnOk, ◌==
 ghost use Rattle.dap_points.specs.Changes.{is_same_note, is_same_option, is_same_point, if_changed};
 ghost use Rattle.dap_points.specs.Changes.{changed_points};
 
-use crate::note::{copy_note, is_same_note};
+use crate::note::is_same_note;
 use base_text::sequence::Sequence;
-use dap_editor::message::{BreakpointNote, PlacedBreakpoint};
+use dap_messages::message::{BreakpointNote, PlacedBreakpoint};
 use std::alloc::{AllocError, Global};
 
 fn is_same_message(first: &Option<BreakpointNote>, second: &Option<BreakpointNote>) -> bool
@@ -36,22 +36,15 @@ fn is_same_point(first: &PlacedBreakpoint, second: &PlacedBreakpoint) -> bool
         && is_same_message(&first.note, &second.note)
 }
 
-fn copy_message(note: &Option<BreakpointNote>) -> Result<Option<BreakpointNote>, AllocError>
-    ensures { IfOk result (λ copy. copy ≡ note.now) }
-{
-    match note {
-        None => Ok(None),
-        Some(note) => Ok(Some(copy_note(note)?)),
-    }
-}
-
 fn copy_point(point: &PlacedBreakpoint) -> Result<PlacedBreakpoint, AllocError>
     ensures { IfOk result (λ copy. copy ≡ point.now) }
 {
-    let note = copy_message(&point.note)?;
+    let note = point.note.clone()?;
+    let condition = point.condition.clone()?;
     Ok(PlacedBreakpoint {
         id: point.id,
         line: point.line,
+        condition,
         is_verified: point.is_verified,
         note,
     })

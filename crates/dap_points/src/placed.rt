@@ -5,25 +5,29 @@ ghost use Rattle.dap_points.specs.Placed.{line_points};
 ghost use Rattle.dap_points.specs.Placed.{why_unmet, other_points, at_label, label_point};
 ghost use Rattle.dap_points.specs.Placed.{room_after, label_points, unlaunched_labels};
 
-use crate::note::copy_note;
 use base_text::sequence::Sequence;
-use dap_editor::message::{BreakpointNote, PlacedBreakpoint};
+use base_text::text::Text;
 use dap_editor::request::{FunctionBreakpoint, LineBreakpoint};
+use dap_messages::message::{BreakpointNote, PlacedBreakpoint};
 use std::alloc::{AllocError, Global};
 
 /// A breakpoint on a line of the program, and the first line with code at or below it, if there is one.
-#[derive(Clone, Copy)]
+#[derive(Drop)]
 pub struct LandedLine {
-    pub asked: LineBreakpoint,
+    pub line: u32,
+    pub condition: Option<Text>,
+    /// What there is to object to it, wherever it lands.
+    pub objection: Option<BreakpointNote>,
     pub landing: Option<u32>,
 }
 
-/// The line of a label at which a breakpoint is to be, if the program has the label.
-#[derive(Clone, Copy)]
+/// A breakpoint at a label, and the label's line, if the program has it.
+#[derive(Drop)]
 pub struct FoundLabel {
     pub line: Option<u32>,
-    /// Whether the breakpoint has no condition, no hit count and no log message.
-    pub is_plain: bool,
+    pub condition: Option<Text>,
+    /// What there is to object to it, wherever the label is.
+    pub objection: Option<BreakpointNote>,
 }
 
 fn id_at(number: u32, index: usize) -> u32
@@ -35,12 +39,18 @@ fn id_at(number: u32, index: usize) -> u32
 }
 
 // A breakpoint that is met on this line.
-fn met_at(id: u32, line: u32, note: Option<BreakpointNote>) -> PlacedBreakpoint
-    ensures { result ≡ met_at id line note }
+fn met_at(
+    id: u32,
+    line: u32,
+    condition: Option<Text>,
+    note: Option<BreakpointNote>,
+) -> PlacedBreakpoint
+    ensures { result ≡ met_at id line condition note }
 {
     PlacedBreakpoint {
         id,
         line: Some(line),
+        condition,
         is_verified: true,
         note,
     }
@@ -53,6 +63,7 @@ fn unmet_at(id: u32, line: Option<u32>, why: BreakpointNote) -> PlacedBreakpoint
     PlacedBreakpoint {
         id,
         line,
+        condition: None,
         is_verified: false,
         note: Some(why),
     }
@@ -68,22 +79,25 @@ fn moved_note(from: u32, line: u32) -> Option<BreakpointNote>
     }
 }
 
-fn landed_point(id: u32, line: u32, landing: Option<u32>) -> PlacedBreakpoint
-    ensures { result ≡ landed_point id line landing }
+fn landed_point(id: u32, landed: &LandedLine) -> Result<PlacedBreakpoint, AllocError>
+    ensures { IfOk result (λ point. point ≡ landed_point id landed.now landed.now.landing) }
 {
-    match landing {
-        None => unmet_at(id, Some(line), BreakpointNote::NoCode { line }),
-        Some(landing) => met_at(id, landing, moved_note(line, landing)),
+    let line = landed.line;
+    match landed.landing {
+        None => Ok(unmet_at(id, Some(line), BreakpointNote::NoCode { line })),
+        Some(landing) => {
+            let condition = landed.condition.clone()?;
+            Ok(met_at(id, landing, condition, moved_note(line, landing)))
+        }
     }
 }
 
-fn line_point(id: u32, line: LandedLine) -> PlacedBreakpoint
-    ensures { result ≡ line_point id line }
+fn line_point(id: u32, landed: &LandedLine) -> Result<PlacedBreakpoint, AllocError>
+    ensures { IfOk result (λ point. point ≡ line_point id landed.now) }
 {
-    if line.asked.is_plain {
-        landed_point(id, line.asked.line, line.landing)
-    } else {
-        unmet_at(id, Some(line.asked.line), BreakpointNote::Conditional)
+    match &landed.objection {
+        None => landed_point(id, landed),
+        Some(why) => Ok(unmet_at(id, Some(landed.line), why.clone()?)),
     }
 }
 
@@ -101,7 +115,7 @@ pub fn line_points(
     let mut index = 0;
     let mut left = lines;
     while let Some((line, later)) = left.split_first() {
-        points.push(line_point(id_at(number, index), *line))?;
+        points.push(line_point(id_at(number, index), line)?)?;
         index += 1;
         left = later;
     }
@@ -112,9 +126,9 @@ fn why_unmet(why: &BreakpointNote, is_plain: bool) -> Result<BreakpointNote, All
     ensures { IfOk result (λ note. note ≡ why_unmet why.now is_plain) }
 {
     if is_plain {
-        copy_note(why)
+        Ok(why.clone()?)
     } else {
-        Ok(BreakpointNote::Conditional)
+        Ok(BreakpointNote::NotSupported)
     }
 }
 
@@ -142,23 +156,27 @@ pub fn other_points(
     Ok(points)
 }
 
-fn at_label(id: u32, room: usize, line: Option<u32>) -> PlacedBreakpoint
-    ensures { result ≡ at_label id room line }
+fn at_label(
+    id: u32,
+    room: usize,
+    condition: &Option<Text>,
+    line: Option<u32>,
+) -> Result<PlacedBreakpoint, AllocError>
+    ensures { IfOk result (λ point. point ≡ at_label id room condition.now line) }
 {
     match line {
-        None => unmet_at(id, None, BreakpointNote::NoLabel),
-        Some(line) if room == 0 => unmet_at(id, Some(line), BreakpointNote::TooMany),
-        Some(line) => met_at(id, line, None),
+        None => Ok(unmet_at(id, None, BreakpointNote::NoLabel)),
+        Some(line) if room == 0 => Ok(unmet_at(id, Some(line), BreakpointNote::TooMany)),
+        Some(line) => Ok(met_at(id, line, condition.clone()?, None)),
     }
 }
 
-fn label_point(id: u32, room: usize, label: FoundLabel) -> PlacedBreakpoint
-    ensures { result ≡ label_point id room label }
+fn label_point(id: u32, room: usize, label: &FoundLabel) -> Result<PlacedBreakpoint, AllocError>
+    ensures { IfOk result (λ point. point ≡ label_point id room label.now) }
 {
-    if label.is_plain {
-        at_label(id, room, label.line)
-    } else {
-        unmet_at(id, label.line, BreakpointNote::Conditional)
+    match &label.objection {
+        None => at_label(id, room, &label.condition, label.line),
+        Some(why) => Ok(unmet_at(id, label.line, why.clone()?)),
     }
 }
 
@@ -186,7 +204,7 @@ pub fn label_points(
     let mut free = room;
     let mut left = labels;
     while let Some((label, later)) = left.split_first() {
-        let point = label_point(id_at(0, index), free, *label);
+        let point = label_point(id_at(0, index), free, label)?;
         free = room_after(free, &point);
         points.push(point)?;
         index += 1;

@@ -2,4 +2,3 @@ pub mod ChangeLemmas
 pub mod LoadLemmas
 pub mod SliceLemmas
 pub mod LineLemmas
-pub mod CodeLineLemmas

@@ -3,7 +3,7 @@ use Rattle.std.specs.Prelude.{ℕ, List, map, take, Option, option_map}
 use Rattle.base_text.specs.Bytes.{Text}
 use Rattle.lab_core.specs.declared.event.Event.TheVariants.{SetBreakpoints}
 use Rattle.lab_core.specs.Board.{Board}
-use Rattle.dap_editor.specs.declared.message.PlacedBreakpoint.{PlacedBreakpoint}
+use Rattle.dap_messages.specs.declared.message.PlacedBreakpoint.{PlacedBreakpoint}
 use Rattle.dap_editor.specs.declared.request.LineBreakpoint.{LineBreakpoint}
 use Rattle.dap_editor.specs.declared.request.FunctionBreakpoint.{FunctionBreakpoint}
 use Rattle.dap_inspect.specs.Labels.{line_of_label}
@@ -11,7 +11,8 @@ use Rattle.dap_points.specs.declared.placed.FoundLabel.{FoundLabel}
 use Rattle.dap_points.specs.Placed.{line_points, label_points}
 use Rattle.dap_points.specs.Boards.{room_behind, wanted_lines}
 use Rattle.dap_program.specs.Boards.{after}
-use Rattle.dap_program.specs.CodeLines.{landed_at}
+use Rattle.dap_lines.specs.CodeLines.{landed_at}
+use Rattle.dap_lines.specs.Conditions.{objection}
 
 -- on these lines of the program, which is the source with this number
 abbrev pub lines_on : Board → ℕ → List LineBreakpoint → List PlacedBreakpoint
@@ -21,7 +22,11 @@ abbrev pub label_line : Board → Text → Option ℕ
 label_line b name = option_map (λ at. at.line) (line_of_label b name)
 
 abbrev pub found_label : Board → FunctionBreakpoint → FoundLabel
-found_label b f = record { line = label_line b f.name; is_plain = f.is_plain }
+found_label b f = record {
+  line = label_line b f.name;
+  condition = f.condition;
+  objection = objection b f.condition f.is_plain;
+}
 
 -- at labels, beside the breakpoints on lines
 abbrev pub labels_behind : Board → List PlacedBreakpoint → List FunctionBreakpoint → List PlacedBreakpoint

@@ -6,9 +6,9 @@ use Rattle.lab_core.specs.declared.answer.SliceOutcome.{SliceOutcome}
 use Rattle.lab_core.specs.declared.answer.SliceOutcome.TheVariants as outcome
 use Rattle.lab_core.specs.Board.{Board}
 use Rattle.lab_core.specs.Moments.{after_hold}
-use Rattle.dap_editor.specs.declared.message.UndefinedOpcode.{UndefinedOpcode}
-use Rattle.dap_editor.specs.declared.message.EditorStop.{EditorStop}
-use Rattle.dap_editor.specs.declared.message.EditorStop.TheVariants as stop
+use Rattle.dap_messages.specs.declared.message.UndefinedOpcode.{UndefinedOpcode}
+use Rattle.dap_messages.specs.declared.message.EditorStop.{EditorStop}
+use Rattle.dap_messages.specs.declared.message.EditorStop.TheVariants as stop
 use Rattle.dap_editor.specs.declared.request.ExceptionFilters.{ExceptionFilters}
 use Rattle.dap_program.specs.declared.end.EndPolicy.{EndPolicy}
 use Rattle.dap_program.specs.declared.end.EndPolicy.TheVariants.{Exit, Hold}

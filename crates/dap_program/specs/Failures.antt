@@ -3,9 +3,9 @@ use Rattle.std.specs.Prelude.{ℕ, min, ◌++◌, Option, Some, None, codes}
 use Rattle.base_text.specs.Bytes.{Text}
 use Rattle.asm_syntax.specs.declared.fault.AsmFault.TheVariants.{At}
 use Rattle.lab_core.specs.declared.fault.EventFault.TheVariants as refused
-use Rattle.dap_editor.specs.declared.message.EditorEvent.{EditorEvent}
-use Rattle.dap_editor.specs.declared.message.EditorEvent.TheVariants as event
-use Rattle.dap_editor.specs.declared.message.OutputCategory.TheVariants.{Stderr}
+use Rattle.dap_messages.specs.declared.message.EditorEvent.{EditorEvent}
+use Rattle.dap_messages.specs.declared.message.EditorEvent.TheVariants as event
+use Rattle.dap_messages.specs.declared.message.OutputCategory.TheVariants.{Stderr}
 use Rattle.dap_program.specs.declared.load.LoadFault.{LoadFault}
 use Rattle.dap_program.specs.declared.load.LoadFault.TheVariants as fault
 use Rattle.dap_program.specs.Refusals.{board_refusal, assembly_refusal}

@@ -3,7 +3,6 @@ pub mod Messages
 pub mod Refusals
 pub mod Loading
 pub mod Ends
-pub mod SliceEnds
 pub mod Slices
 pub mod Bounds
 pub mod Kits
@@ -11,5 +10,3 @@ pub mod Breakpoints
 pub mod Openings
 pub mod Failures
 pub mod Memory
-pub mod Targets
-pub mod CodeLines

@@ -1,10 +1,10 @@
 -- Messages to an editor (Debug Adapter Protocol, "Base Protocol").
 use Rattle.std.specs.Prelude.{ℕ, List, [], ◌∷◌, ◌++◌, map, Bool, if◌then◌else◌}
-use Rattle.dap_editor.specs.declared.message.EditorEvent.{EditorEvent}
-use Rattle.dap_editor.specs.declared.message.EditorEvent.TheVariants as event
-use Rattle.dap_editor.specs.declared.message.EditorOutcome.{EditorOutcome}
-use Rattle.dap_editor.specs.declared.message.Message.{Message}
-use Rattle.dap_editor.specs.declared.message.Message.TheVariants as message
+use Rattle.dap_messages.specs.declared.message.EditorEvent.{EditorEvent}
+use Rattle.dap_messages.specs.declared.message.EditorEvent.TheVariants as event
+use Rattle.dap_messages.specs.declared.message.EditorOutcome.{EditorOutcome}
+use Rattle.dap_messages.specs.declared.message.Message.{Message}
+use Rattle.dap_messages.specs.declared.message.Message.TheVariants as message
 use Rattle.dap_editor.specs.declared.request.SupportedEvents.{SupportedEvents}
 use Rattle.dap_program.specs.declared.messages.RequestId.{RequestId}
 use Rattle.dap_program.specs.declared.messages.FollowUp.{FollowUp}

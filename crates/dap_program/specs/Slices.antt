@@ -12,16 +12,15 @@ use Rattle.lab_core.specs.declared.answer.SliceOutcome.TheVariants as outcome
 use Rattle.lab_core.specs.declared.answer.End.{End}
 use Rattle.lab_core.specs.declared.answer.End.TheVariants as end
 use Rattle.lab_core.specs.Board.{Board}
-use Rattle.lab_core.specs.Slices.{traffic_of}
+use Rattle.lab_core.specs.Slices.{traffic_of, after_steps, left_by}
 use Rattle.lab_core.specs.Labs.{LabState, RepresentsBoard}
-use Rattle.dap_program.specs.SliceEnds.{slice_end_within, after_slice_within}
 use Rattle.i80_devs.specs.Console.{written_to_console, wants_line}
 use Rattle.dap_board.specs.Names.{reason_of}
-use Rattle.dap_editor.specs.declared.message.EditorEvent.{EditorEvent}
-use Rattle.dap_editor.specs.declared.message.EditorEvent.TheVariants as event
-use Rattle.dap_editor.specs.declared.message.EditorStop.TheVariants.{Board as AtBoard}
-use Rattle.dap_editor.specs.declared.message.OutputCategory.{OutputCategory}
-use Rattle.dap_editor.specs.declared.message.OutputCategory.TheVariants as category
+use Rattle.dap_messages.specs.declared.message.EditorEvent.{EditorEvent}
+use Rattle.dap_messages.specs.declared.message.EditorEvent.TheVariants as event
+use Rattle.dap_messages.specs.declared.message.EditorStop.TheVariants.{Board as AtBoard}
+use Rattle.dap_messages.specs.declared.message.OutputCategory.{OutputCategory}
+use Rattle.dap_messages.specs.declared.message.OutputCategory.TheVariants as category
 use Rattle.dap_editor.specs.declared.request.ExceptionFilters.{ExceptionFilters}
 use Rattle.dap_program.specs.declared.slice.Slice.{Slice}
 use Rattle.dap_program.specs.declared.end.EndPolicy.{EndPolicy}
@@ -93,18 +92,13 @@ slice_events held asks traffic ending =
 
 -- ---- the slice
 
--- whether the slice of at most n steps asks for a line
-abbrev pub asks_within : Bool → ℕ → Board → Bool
-asks_within has_asked n b =
-    let k = (slice_end_within n b).0 in asks_line has_asked k (traffic_of k b)
-
--- What a slice of at most n steps is on a board, by the ends at which the run is held, and by whether a line
--- was asked for.
-pub record IsSliceOf (n : ℕ) (held : ExceptionFilters) (has_asked : Bool) (b : Board) (s : Slice)
-    (lab : LabState) : Type 0 where
-  pub executed : s.executed ≡ (slice_end_within n b).0
-  pub asks : s.asks_line ≡ asks_within has_asked n b
-  pub messages : s.messages ≡ as_messages (slice_events held (asks_within has_asked n b)
-      (traffic_of (slice_end_within n b).0 b) (slice_end_within n b).1)
-  pub outcome : s.outcome ≡ (slice_end_within n b).1
-  pub represents : RepresentsBoard lab (held_at_end held (slice_end_within n b).1 (after_slice_within n b))
+-- What a slice that ends there and so is on a board, by the ends at which the run is held, and by whether a
+-- line was asked for.
+pub record IsSliceOf (end : ℕ × SliceOutcome) (held : ExceptionFilters) (has_asked : Bool) (b : Board)
+    (s : Slice) (lab : LabState) : Type 0 where
+  pub executed : s.executed ≡ end.0
+  pub asks : s.asks_line ≡ asks_line has_asked end.0 (traffic_of end.0 b)
+  pub messages : s.messages ≡ as_messages (slice_events held (asks_line has_asked end.0 (traffic_of end.0 b))
+      (traffic_of end.0 b) end.1)
+  pub outcome : s.outcome ≡ end.1
+  pub represents : RepresentsBoard lab (held_at_end held end.1 (left_by end.1 (after_steps end.0 b)))

@@ -6,12 +6,13 @@ ghost use Rattle.dap_program.specs.Breakpoints.{lines_on, label_line, found_labe
 ghost use Rattle.dap_program.specs.Breakpoints.{board_armed_at};
 
 use crate::change::change;
-use crate::code_lines::landings;
 use base_text::sequence::Sequence;
 use base_text::text::Text;
-use dap_editor::message::PlacedBreakpoint;
 use dap_editor::request::{FunctionBreakpoint, LineBreakpoint};
 use dap_inspect::label::line_of_label;
+use dap_lines::code_lines::landings;
+use dap_lines::conditions::objection;
+use dap_messages::message::PlacedBreakpoint;
 use dap_points::board::{room_behind, wanted_lines};
 use dap_points::placed::{FoundLabel, label_points, line_points};
 use dap_points::points::MOST_POINTS;
@@ -53,9 +54,12 @@ fn find_label(
         → IfOk result (λ label. label ≡ found_label b function.now) }
 {
     let line = label_line(alloc, lab, function.name.as_str())?;
+    let objection = objection(alloc, lab, &function.condition, function.is_plain)?;
+    let condition = function.condition.clone()?;
     Ok(FoundLabel {
         line,
-        is_plain: function.is_plain,
+        condition,
+        objection,
     })
 }
 

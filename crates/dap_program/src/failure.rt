@@ -10,7 +10,7 @@ use crate::refusals::{assembly_refusal, board_refusal};
 use asm_syntax::fault::{AsmFault, FaultKind};
 use base_text::sequence::{Bytes, Sequence};
 use base_text::text::Text;
-use dap_editor::message::{EditorEvent, EditorOutcome, Message, OutputCategory, SourcePlace};
+use dap_messages::message::{EditorEvent, EditorOutcome, Message, OutputCategory, SourcePlace};
 use lab_core::fault::EventFault;
 use std::alloc::{AllocError, Global};
 

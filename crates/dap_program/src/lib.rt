@@ -8,15 +8,11 @@
 pub mod bounds;
 pub mod breakpoints;
 pub mod change;
-pub mod code_lines;
 pub mod end;
 pub mod failure;
-pub mod laws;
 pub mod load;
 pub mod memory;
 pub mod messages;
 pub mod opening;
 pub mod refusals;
-mod run_slice;
 pub mod slice;
-pub mod target;

@@ -5,8 +5,8 @@ ghost use Rattle.dap_program.specs.Messages.{event_if, change_events};
 
 use base_text::sequence::Sequence;
 use base_text::text::Text;
-use dap_editor::message::{EditorEvent, EditorOutcome, EditorResponse, EditorStop, Message};
 use dap_editor::request::SupportedEvents;
+use dap_messages::message::{EditorEvent, EditorOutcome, EditorResponse, EditorStop, Message};
 use std::alloc::{AllocError, Global};
 use std::marker::Model;
 
@@ -48,7 +48,7 @@ impl Drop for Messages {
 
 impl Model for Messages {
     ghost use Rattle.std.specs.Prelude.{◌≤◌, length, vec_capacity, List};
-    ghost use Rattle.dap_editor.specs.declared.message.Message.{Message};
+    ghost use Rattle.dap_messages.specs.declared.message.Message.{Message};
 
     ghost Value = { List Message };
 

@@ -4,8 +4,8 @@ ghost use Rattle.dap_program.specs.Refusals.{board_refusal, request_refusal, ass
 
 use asm_syntax::fault::FaultKind;
 use base_text::text::Text;
-use dap_editor::message::EditorOutcome;
 use dap_editor::request::RequestFault;
+use dap_messages::message::EditorOutcome;
 use lab_core::fault::EventFault;
 use std::alloc::{AllocError, Global};
 

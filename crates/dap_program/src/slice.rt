@@ -14,14 +14,16 @@ ghost use Rattle.dap_program.specs.Slices.{undefined_line, exception_events, pol
 ghost use Rattle.dap_program.specs.Slices.{outcome_events, slice_events, IsSliceOf, is_vain_read};
 ghost use Rattle.dap_program.specs.Slices.{polls_in_vain, asks_line};
 ghost use Rattle.dap_program.specs.Kits.{IsSliceKit};
+ghost use Rattle.dap_slice.specs.SliceEnds.{slice_end_within};
 
 use crate::end::{EndPolicy, exit_code, hold_at_end, policy_at, stop_at};
 use crate::messages::Messages;
-use crate::run_slice::{SliceResult, slice_within};
 use base_text::sequence::{Bytes, Sequence};
 use dap_board::names::reason_of;
-use dap_editor::message::{EditorEvent, EditorStop, Message, OutputCategory};
 use dap_editor::request::ExceptionFilters;
+use dap_messages::message::{EditorEvent, EditorStop, Message, OutputCategory};
+use dap_slice::conditions::ConditionalBreakpoints;
+use dap_slice::slice::SliceResult;
 use i80_devs::console::{is_line_requested, print_all};
 use i80_exec::ports::PortOperation;
 use lab_core::answer::{End, SliceOutcome};
@@ -279,22 +281,24 @@ impl SliceKit {
 // ---- the slice
 
 /// Makes at most `limit` steps of the run on a board, from 1 to 4,096, and returns the messages about them.
-/// `held` says at which ends the run is held, `has_asked` whether the program asked for a line since the last
-/// one was typed. If no run goes on, it fails like out of memory. If it fails, the board stays as it was.
+/// It ends where the run comes to one of `points`. `held` says at which ends the run is held, `has_asked`
+/// whether the program asked for a line since the last one was typed. If no run goes on, it fails like out of
+/// memory. If it fails, the board stays as it was.
 pub fn make_slice(
     alloc: Global,
     lab: &mut Lab,
+    points: &mut ConditionalBreakpoints,
     limit: u16,
     held: ExceptionFilters,
     has_asked: bool,
 ) -> Result<Slice, AllocError>
     requires { (1 ≤ limit) × (limit ≤ 4096) × RepresentsSomeBoard lab.old }
-    ensures made { (b : Board) → RepresentsBoard lab.old b → b.run ≡ Running
-        → IfOk result (λ slice. IsSliceOf limit held has_asked b slice lab.new) }
-    ensures err { OnErr result (lab.new ≡ lab.old) }
+    ensures made { (b : Board) → RepresentsBoard lab.old b → b.run ≡ Running → IfOk result
+        (λ slice. IsSliceOf (slice_end_within points.old limit b) held has_asked b slice lab.new) }
+    ensures rest { (points.new ≡ points.old) × OnErr result (lab.new ≡ lab.old) }
 {
     let kit = slice_kit(alloc)?;
-    match slice_within(lab, limit) {
+    match points.slice(lab, limit) {
         Ok(
             SliceResult {
                 executed,

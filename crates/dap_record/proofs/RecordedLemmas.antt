@@ -14,8 +14,8 @@ use Rattle.dap_board.specs.Bodies.{body_of}
 use Rattle.dap_board.specs.Commands.{with_body, first_line, command_result}
 use Rattle.dap_inspect.specs.declared.fault.EvaluateFault.{EvaluateFault}
 use Rattle.dap_inspect.specs.Expressions.{expression_text}
-use Rattle.dap_editor.specs.declared.message.Message.{Message}
-use Rattle.dap_editor.specs.declared.message.UndefinedOpcode.{UndefinedOpcode}
+use Rattle.dap_messages.specs.declared.message.Message.{Message}
+use Rattle.dap_messages.specs.declared.message.UndefinedOpcode.{UndefinedOpcode}
 use Rattle.dap_editor.specs.declared.request.EditorCommand.{EditorCommand}
 use Rattle.dap_editor.specs.declared.request.EditorCommand.TheVariants as editor
 use Rattle.dap_editor.specs.declared.request.EvaluateContext.TheVariants as context

@@ -8,9 +8,9 @@ use Rattle.std.proofs.lemmas.Bool.Decides.{nat_tests}
 use Rattle.std.specs.Prelude.{option_and_then}
 use Rattle.std.specs.declared.alloc.AllocError.{AllocError}
 use Rattle.i80_exec.specs.declared.registers.Registers.{Registers}
-use Rattle.dap_editor.specs.declared.message.EditorOutcome.{EditorOutcome}
-use Rattle.dap_editor.specs.declared.message.EditorOutcome.TheVariants.{Success, Refused}
-use Rattle.dap_editor.specs.declared.message.Message.{Message}
+use Rattle.dap_messages.specs.declared.message.EditorOutcome.{EditorOutcome}
+use Rattle.dap_messages.specs.declared.message.EditorOutcome.TheVariants.{Success, Refused}
+use Rattle.dap_messages.specs.declared.message.Message.{Message}
 use Rattle.dap_editor.specs.declared.request.EditorCommand.TheVariants as editor
 use Rattle.dap_editor.specs.declared.request.RequestContent.{RequestContent}
 use Rattle.dap_editor.specs.declared.request.RequestContent.TheVariants as asked

@@ -1,8 +1,8 @@
 -- Parts of a search backward.
 use Rattle.std.proofs.Common.{◌≡◌, ◌∙◌, ℕ, List, [], Bool, true, false, Some, None, sym, ap, subst}
 use Rattle.lab_core.specs.Board.{Board}
-use Rattle.dap_editor.specs.declared.message.EditorStop.{EditorStop}
-use Rattle.dap_editor.specs.declared.message.Message.{Message}
+use Rattle.dap_messages.specs.declared.message.EditorStop.{EditorStop}
+use Rattle.dap_messages.specs.declared.message.Message.{Message}
 use Rattle.dap_history.specs.declared.goal.Goal.{Goal}
 use Rattle.dap_history.specs.declared.goal.Goal.TheVariants.{Breakpoint}
 use Rattle.dap_history.specs.Histories.{KeepsHistory}

@@ -12,10 +12,10 @@ use Rattle.lab_core.specs.declared.answer.SliceOutcome.{SliceOutcome}
 use Rattle.lab_core.specs.declared.answer.SliceOutcome.TheVariants as outcome
 use Rattle.lab_core.specs.Board.{Board}
 use Rattle.lab_core.specs.Slices.{after_steps, left_by}
-use Rattle.dap_program.specs.SliceEnds.{slice_end_within}
-use Rattle.lab_core.proofs.LawLemmas.{slice_within}
+use Rattle.dap_session.specs.Slices.{slice_end_in}
+use Rattle.dap_slice.proofs.SliceLemmas.{end_within}
 use Rattle.dap_editor.specs.declared.request.ExceptionFilters.{ExceptionFilters}
-use Rattle.dap_editor.specs.declared.message.Message.{Message}
+use Rattle.dap_messages.specs.declared.message.Message.{Message}
 use Rattle.dap_program.specs.declared.end.EndPolicy.{EndPolicy}
 use Rattle.dap_program.specs.declared.end.EndPolicy.TheVariants.{Exit, Hold}
 use Rattle.dap_program.specs.Ends.{policy_at, left_at_end, held_at_end}
@@ -188,12 +188,13 @@ pub slice_made : (v : RecordingFields) (r : Recording) (s : SessionState) (limit
 slice_made v r s limit count told made mid new slice rec limit_is slices count_is told_is redoes keeps says =
     let same : limit ≡ slice_limit r = limit_is ∙ rw (rec.count, rec.told, rec.log) refl in
     let within = subst (λ n. SlicesWithin n s made mid) same slices in
-    let end = slice_end_within (slice_limit r) s.board in
+    let end = slice_end_in (slice_limit r) s in
     let counted : count ≡ r.count + end.0 = count_is ∙ rw (rec.count, within.executed) refl in
     record {
       messages = says ∙ told_so end v r s made rec within.told.0;
       represents =
-          represented end v r s count told mid new slice rec (slice_within (slice_limit r) s.board)
+          represented end v r s count told mid new slice rec
+          (end_within s.settings.conditional (slice_limit r) s.board)
           within.told.1 counted told_is redoes keeps;
     }
 

@@ -15,8 +15,8 @@ use Rattle.dap_launch.specs.declared.program.Program.{Program}
 use Rattle.dap_launch.specs.Lives.{released_phase, released_program}
 use Rattle.dap_launch.specs.declared.reply.Reply.{Reply}
 use Rattle.dap_program.specs.declared.messages.FollowUp.TheVariants.{Nothing, Stopped}
-use Rattle.dap_editor.specs.declared.message.EditorBody.{EditorBody}
-use Rattle.dap_editor.specs.declared.message.EditorOutcome.TheVariants.{Success}
+use Rattle.dap_messages.specs.declared.message.EditorBody.{EditorBody}
+use Rattle.dap_messages.specs.declared.message.EditorOutcome.TheVariants.{Success}
 use Rattle.dap_session.specs.States.{SessionState}
 use Rattle.dap_session.specs.Memory.{is_stopped}
 use Rattle.dap_session.specs.Represents as sessions
@@ -34,7 +34,7 @@ use Rattle.dap_record.specs.Represents.{RepresentsRecording, RepresentsRecording
 use Rattle.dap_record.specs.Represents.{RepresentsSome, IsRecorded, GoesBack, Replies}
 use Rattle.dap_record.specs.Represents.{RepliesFrom, Tells}
 use Rattle.dap_record.specs.Slices.{RecordedTold}
-use Rattle.dap_editor.specs.declared.message.Message.{Message}
+use Rattle.dap_messages.specs.declared.message.Message.{Message}
 
 -- ---- a run that was put back
 

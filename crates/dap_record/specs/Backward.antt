@@ -8,10 +8,10 @@ use Rattle.lab_core.specs.Board.{Board}
 use Rattle.lab_core.specs.declared.fault.EventFault.TheVariants.{NotStopped}
 use Rattle.dap_answers.specs.declared.answer.Body.TheVariants.{Empty}
 use Rattle.dap_answers.specs.declared.answer.StopReason.TheVariants as reason
-use Rattle.dap_editor.specs.declared.message.EditorBody.{EditorBody}
-use Rattle.dap_editor.specs.declared.message.EditorBody.TheVariants as body
-use Rattle.dap_editor.specs.declared.message.EditorStop.{EditorStop}
-use Rattle.dap_editor.specs.declared.message.EditorStop.TheVariants.{Entry, Board as AtBoard}
+use Rattle.dap_messages.specs.declared.message.EditorBody.{EditorBody}
+use Rattle.dap_messages.specs.declared.message.EditorBody.TheVariants as body
+use Rattle.dap_messages.specs.declared.message.EditorStop.{EditorStop}
+use Rattle.dap_messages.specs.declared.message.EditorStop.TheVariants.{Entry, Board as AtBoard}
 use Rattle.dap_editor.specs.declared.request.EvaluateContext.TheVariants.{Repl}
 use Rattle.dap_editor.specs.declared.request.EditorCommand.TheVariants as editor
 use Rattle.dap_editor.specs.declared.request.RequestContent.{RequestContent}

@@ -1,9 +1,9 @@
 -- Which states a recorded session represents.
 use Rattle.std.specs.Prelude.{◌≡◌, Bool, true, false, List, [], ◌∷◌, Option, Some, None, Result, IfOk}
 use Rattle.std.specs.declared.alloc.AllocError.{AllocError}
-use Rattle.dap_program.specs.SliceEnds.{slice_end_within}
-use Rattle.dap_editor.specs.declared.message.Message.{Message}
-use Rattle.dap_editor.specs.declared.message.Message.TheVariants as message
+use Rattle.dap_session.specs.Slices.{slice_end_in}
+use Rattle.dap_messages.specs.declared.message.Message.{Message}
+use Rattle.dap_messages.specs.declared.message.Message.TheVariants as message
 use Rattle.dap_history.specs.Histories.{IsHistoryOf}
 use Rattle.dap_history.specs.Runs.{board_at, after_rewind}
 use Rattle.dap_history.specs.Searches.{IsSearchOf}
@@ -136,10 +136,10 @@ TellsPart v search session result new =
 -- a slice of a recorded run was made
 pub record MakesRecordedSlice (r : Recording) (s : SessionState) (slice : RecordedSlice)
     (session : SessionFields) : Type 0 where
-  pub messages : slice.messages ≡ (recorded_slice (slice_end_within (slice_limit r) s.board) r s).messages
+  pub messages : slice.messages ≡ (recorded_slice (slice_end_in (slice_limit r) s) r s).messages
   pub represents : RepresentsRecorded
       (record { session = session; recording = slice.recording; search = None })
-      (recorded_slice (slice_end_within (slice_limit r) s.board) r s).state
+      (recorded_slice (slice_end_in (slice_limit r) s) r s).state
 
 -- as RepresentsRecording, of a run that may not go back any more
 pub record IsAt (v : RecordingFields) (r : Recording) (s : SessionState) : Type 0 where

@@ -4,10 +4,10 @@ use Rattle.std.specs.Prelude.{Some}
 use Rattle.std.specs.Prelude.{None, nat_lt, if◌then◌else◌, is_some, ◌||◌}
 use Rattle.std.specs.List.{filter}
 use Rattle.lab_core.specs.declared.answer.SliceOutcome.{SliceOutcome}
-use Rattle.dap_program.specs.SliceEnds.{slice_end_within}
-use Rattle.dap_editor.specs.declared.message.EditorEvent.TheVariants as event
-use Rattle.dap_editor.specs.declared.message.Message.{Message}
-use Rattle.dap_editor.specs.declared.message.Message.TheVariants as message
+use Rattle.dap_session.specs.Slices.{slice_end_in}
+use Rattle.dap_messages.specs.declared.message.EditorEvent.TheVariants as event
+use Rattle.dap_messages.specs.declared.message.Message.{Message}
+use Rattle.dap_messages.specs.declared.message.Message.TheVariants as message
 use Rattle.dap_editor.specs.declared.request.EditorRequest.{EditorRequest}
 use Rattle.dap_editor.specs.declared.request.RequestContent.{RequestContent}
 use Rattle.dap_history.specs.declared.input.Recorded.{Recorded}
@@ -85,7 +85,7 @@ slice_of None s =
       messages = t.messages;
       state = record { session = t.state; recording = None; search = None };
     }
-slice_of (Some r) s = recorded_slice (slice_end_within (slice_limit r) s.board) r s
+slice_of (Some r) s = recorded_slice (slice_end_in (slice_limit r) s) r s
 
 abbrev pub run_told : RecordedState → RecordedTold
 run_told v =

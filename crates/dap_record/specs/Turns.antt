@@ -3,18 +3,18 @@ use Rattle.std.specs.Prelude.{ℕ, List, [], ◌∷◌, ◌++◌, Bool, Option, 
 use Rattle.base_text.specs.Bytes.{Bytes}
 use Rattle.dap_answers.specs.declared.answer.Body.TheVariants.{Empty}
 use Rattle.dap_answers.specs.declared.answer.StopReason.TheVariants.{Pause as ByPause}
-use Rattle.dap_editor.specs.declared.message.EditorBody.TheVariants as body
-use Rattle.dap_editor.specs.declared.message.EditorStop.TheVariants.{Board as AtBoard}
-use Rattle.dap_editor.specs.declared.message.EditorEvent.{EditorEvent}
-use Rattle.dap_editor.specs.declared.message.EditorEvent.TheVariants as event
-use Rattle.dap_editor.specs.declared.message.EditorOutcome.{EditorOutcome}
-use Rattle.dap_editor.specs.declared.message.OutputCategory.TheVariants.{Console}
+use Rattle.dap_messages.specs.declared.message.EditorBody.TheVariants as body
+use Rattle.dap_messages.specs.declared.message.EditorStop.TheVariants.{Board as AtBoard}
+use Rattle.dap_messages.specs.declared.message.EditorEvent.{EditorEvent}
+use Rattle.dap_messages.specs.declared.message.EditorEvent.TheVariants as event
+use Rattle.dap_messages.specs.declared.message.EditorOutcome.{EditorOutcome}
+use Rattle.dap_messages.specs.declared.message.OutputCategory.TheVariants.{Console}
 use Rattle.dap_editor.specs.declared.request.RequestContent.{RequestContent}
 use Rattle.dap_history.specs.declared.goal.Goal.{Goal}
 use Rattle.dap_launch.specs.declared.file.FileText.{FileText}
 use Rattle.dap_program.specs.declared.messages.FollowUp.TheVariants.{Stopped}
 use Rattle.dap_program.specs.Messages.{events_of, as_messages}
-use Rattle.dap_editor.specs.declared.message.Message.{Message}
+use Rattle.dap_messages.specs.declared.message.Message.{Message}
 use Rattle.dap_session.specs.States.{SessionState}
 use Rattle.dap_session.specs.Turns.{Turn, refusing, succeeding}
 use Rattle.dap_session.specs.Requests as session

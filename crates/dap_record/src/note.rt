@@ -18,8 +18,8 @@ ghost use Rattle.dap_record.specs.Noting.{IsAfterInputIf, NotesInput};
 use crate::input::{forgotten_line, is_success, record};
 use crate::recording::RunRecording;
 use base_text::sequence::Sequence;
-use dap_editor::message::{EditorEvent, Message, OutputCategory};
 use dap_history::input::Input;
+use dap_messages::message::{EditorEvent, Message, OutputCategory};
 use dap_session::session::Session;
 use std::alloc::{AllocError, Global};
 

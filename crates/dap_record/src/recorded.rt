@@ -22,11 +22,11 @@ use crate::slice::{RecordedSlice, run_recorded};
 use crate::travel::{Departure, go_back};
 use base_text::sequence::Sequence;
 use dap_answers::answer::StopReason;
-use dap_editor::message::{EditorStop, Message};
 use dap_editor::request::EditorRequest;
 use dap_inputs::inputs::{as_meant, input_of};
 use dap_launch::file::FileText;
 use dap_launch::reply::{Reply, accept, refuse};
+use dap_messages::message::{EditorStop, Message};
 use dap_program::messages::{FollowUp, Messages, RequestId};
 use dap_program::refusals::board_refusal;
 use dap_session::session::Session;
@@ -54,10 +54,14 @@ impl Drop for RecordedSession {
 }
 
 impl Model for RecordedSession {
+    ghost use Rattle.std.specs.Coded.{codes};
+    ghost use Rattle.asm_expr.specs.contracts.expression.Expr as expr;
     ghost use Rattle.dap_record.specs.Fields.{RecordedFields};
     ghost use Rattle.dap_record.specs.Represents.{RepresentsSome};
 
     ghost Value = { RecordedFields };
+
+    ghost coded = { Prim.hlevel (codes, expr.the_row.coded) };
 
     ghost view = { λ r. record { session = r.session; recording = r.recording; search = r.search } };
 
@@ -72,11 +76,7 @@ impl Model for RecordedSession {
 fn caller_of(request: EditorRequest) -> RequestId
     ensures { result ≡ caller_of request }
 {
-    let EditorRequest {
-        seq,
-        command,
-        asked,
-    } = request;
+    let (seq, command, asked) = request.into_parts();
     drop(asked);
     RequestId { seq, command }
 }
@@ -113,11 +113,7 @@ impl RecordedSession {
         ensures { (v : RecordedState) → RepresentsRecorded self.now v
             → result ≡ record request { asked = meant_by request v } }
     {
-        let EditorRequest {
-            seq,
-            command,
-            asked,
-        } = request;
+        let (seq, command, asked) = request.into_parts();
         EditorRequest {
             seq,
             command,

@@ -9,11 +9,21 @@ use std::marker::Model;
 
 /// The history of a run, the number of steps that it has made now, and the greatest number of steps whose
 /// output was told.
-#[derive(Drop)]
 pub struct RunRecording {
     pub history: History,
     pub count: u64,
     pub told: u64,
+}
+
+// Written out so that every place that drops it calls one function.
+impl Drop for RunRecording {
+    fn drop(self) {
+        let Self {
+            history: _,
+            count: _,
+            told: _,
+        } = self;
+    }
 }
 
 impl Model for RunRecording {

@@ -12,9 +12,9 @@ ghost use Rattle.dap_record.specs.Represents.{RepresentsRecording, IsSearchFor, 
 use crate::recording::RunRecording;
 use base_text::sequence::Sequence;
 use dap_answers::answer::StopReason;
-use dap_editor::message::{EditorStop, Message};
 use dap_history::goal::Goal;
 use dap_history::search::Search;
+use dap_messages::message::{EditorStop, Message};
 use dap_program::messages::{FollowUp, Messages};
 use dap_session::session::Session;
 use std::alloc::{AllocError, Global};

@@ -10,8 +10,8 @@ ghost use Rattle.dap_record.specs.Represents.{MakesRecordedSlice};
 
 use crate::recording::RunRecording;
 use base_text::sequence::Sequence;
-use dap_editor::message::{EditorEvent, Message};
 use dap_history::input::Recorded;
+use dap_messages::message::{EditorEvent, Message};
 use dap_session::session::{RunSlice, Session};
 use std::alloc::{AllocError, Global};
 

@@ -1,6 +1,5 @@
 -- The breakpoints of a session's program on its board.
-use Rattle.std.proofs.Common.{◌≡◌, ℕ, List, take, Option, Some, Result, Ok, Err, OnOk, subst, sym}
-use Rattle.std.specs.declared.alloc.AllocError.{AllocError}
+use Rattle.std.proofs.Common.{◌≡◌, ℕ, List, take, Option, Some, subst, sym}
 use Rattle.lab_core.specs.Board.{Board}
 use Rattle.lab_core.specs.Labs.{LabState, RepresentsBoard}
 use Rattle.dap_editor.specs.declared.request.LineBreakpoint.{LineBreakpoint}
@@ -8,59 +7,71 @@ use Rattle.dap_editor.specs.declared.request.FunctionBreakpoint.{FunctionBreakpo
 use Rattle.dap_points.specs.declared.points.SourceLines.{SourceLines}
 use Rattle.dap_points.specs.Points.{number_of, lines_at}
 use Rattle.dap_launch.specs.declared.program.Program.{Program}
-use Rattle.dap_launch.specs.Programs.{armed_with}
+use Rattle.dap_slice.specs.declared.conditions.ConditionalBreakpoint.{ConditionalBreakpoint}
+use Rattle.dap_launch.specs.Programs.{armed_with, conditional_with}
 use Rattle.dap_session.specs.declared.settings.SessionSettings.{SessionSettings}
 use Rattle.dap_session.specs.States.{SessionState, with_board}
 use Rattle.dap_session.specs.Breakpoints.{program_at, armed_where, lines_armed, labels_armed}
+use Rattle.dap_session.specs.Breakpoints.{conditional_where, lines_conditional, labels_conditional}
 use Rattle.dap_session.specs.Represents.{SessionFields, RepresentsSession}
 
--- the lab stops on these lines and at these labels of the program
-abbrev pub Arms : Result (Unit {0}) AllocError → LabState → LabState → Program → ℕ → List LineBreakpoint
+-- The lab stops on these lines and at these labels of the program, and these points have conditions.
+abbrev pub Arms : List ConditionalBreakpoint → LabState → LabState → Program → ℕ → List LineBreakpoint
     → List FunctionBreakpoint → Type 0
-Arms r old new program number lines functions = (b : Board) → RepresentsBoard old b
-    → OnOk r (RepresentsBoard new (armed_with program number lines functions b))
+Arms points old new program number lines functions = (b : Board) → RepresentsBoard old b
+    → (points ≡ conditional_with number lines functions b)
+    × RepresentsBoard new (armed_with program number lines functions b)
 
-pub stands_lines : (l : SourceLines) (r : Result (Unit {0}) AllocError) (old : SessionFields) (new : LabState)
-    (program : Program) (number : ℕ) (lines : List LineBreakpoint) (functions : List FunctionBreakpoint)
-    (s : SessionState) → RepresentsSession old s → program_at l.path old.settings.program ≡ Some program
+pub stands_lines : (l : SourceLines) (points : List ConditionalBreakpoint) (old : SessionFields)
+    (new : LabState) (program : Program) (number : ℕ) (lines : List LineBreakpoint)
+    (functions : List FunctionBreakpoint) (s : SessionState)
+    → RepresentsSession old s → program_at l.path old.settings.program ≡ Some program
     → number ≡ number_of l.path old.settings.points.lists → lines ≡ take 256 l.lines
     → functions ≡ take 256 old.settings.points.functions
-    → Arms r old.lab new program number lines functions
-    → OnOk r (RepresentsSession (record old { lab = new }) (lines_armed l s))
-stands_lines l (Err e) old new program number lines functions s represents at n ls fs arms = tt
-stands_lines l (Ok u) old new program number lines functions s represents at n ls fs arms =
+    → Arms points old.lab new program number lines functions
+    → (points ≡ lines_conditional l s) × RepresentsSession (record old { lab = new }) (lines_armed l s)
+stands_lines l points old new program number lines functions s represents at n ls fs arms =
     let b = s.board in
     let kept = old.settings.points in
     let A : ℕ → List LineBreakpoint → List FunctionBreakpoint → Type 0 =
-    λ n ls fs. RepresentsBoard new (armed_with program n ls fs b) in
+    λ n ls fs. (points ≡ conditional_with n ls fs b) × RepresentsBoard new (armed_with program n ls fs b) in
     let armed : A (number_of l.path kept.lists) (take 256 l.lines) (take 256 kept.functions) =
     subst (λ n. A n (take 256 l.lines) (take 256 kept.functions)) n
     (subst (λ ls. A number ls (take 256 kept.functions)) ls
     (subst (λ fs. A number lines fs) fs (arms b represents.board))) in
-    let P : Option Program → Type 0 = λ o. RepresentsBoard new
+    let P : Option Program → Type 0 = λ o.
+    (points ≡ conditional_where o l (record { board = b; settings = old.settings }))
+    × RepresentsBoard new
     (armed_where o (number_of l.path kept.lists) (take 256 l.lines) (take 256 kept.functions) b) in
-    let S : SessionSettings → Type 0 = λ t. RepresentsBoard new (armed_where (program_at l.path t.program)
+    let S : SessionSettings → Type 0 = λ t.
+    (points ≡ lines_conditional l (record { board = b; settings = t }))
+    × RepresentsBoard new (armed_where (program_at l.path t.program)
     (number_of l.path t.points.lists) (take 256 l.lines) (take 256 t.points.functions) b) in
-    record { board = subst S represents.settings (subst P (sym at) armed); settings = represents.settings }
+    let both : S s.settings = subst S represents.settings (subst P (sym at) armed) in
+    (both.0, record { board = both.1; settings = represents.settings })
 
-pub stands_labels : (r : Result (Unit {0}) AllocError) (old : SessionFields) (new : LabState)
+pub stands_labels : (points : List ConditionalBreakpoint) (old : SessionFields) (new : LabState)
     (program : Program) (number : ℕ) (lines : List LineBreakpoint) (functions : List FunctionBreakpoint)
     (s : SessionState) → RepresentsSession old s → old.settings.program ≡ Some program
     → number ≡ number_of program.launch.program old.settings.points.lists
     → lines ≡ lines_at program.launch.program old.settings.points.lists
-    → Arms r old.lab new program number lines functions
-    → OnOk r (RepresentsSession (record old { lab = new })
-    (with_board (labels_armed s.settings.program functions s.settings.points s.board) s))
-stands_labels (Err e) old new program number lines functions s represents at n ls arms = tt
-stands_labels (Ok u) old new program number lines functions s represents at n ls arms =
+    → Arms points old.lab new program number lines functions
+    → (points ≡ labels_conditional s.settings.program functions s)
+    × RepresentsSession (record old { lab = new })
+    (with_board (labels_armed s.settings.program functions s.settings.points s.board) s)
+stands_labels points old new program number lines functions s represents at n ls arms =
     let b = s.board in
     let kept = old.settings.points in
     let path = program.launch.program in
-    let A : ℕ → List LineBreakpoint → Type 0 =
-    λ n ls. RepresentsBoard new (armed_with program n ls functions b) in
+    let A : ℕ → List LineBreakpoint → Type 0 = λ n ls. (points ≡ conditional_with n ls functions b)
+    × RepresentsBoard new (armed_with program n ls functions b) in
     let armed : A (number_of path kept.lists) (lines_at path kept.lists) =
     subst (λ n. A n (lines_at path kept.lists)) n (subst (λ ls. A number ls) ls (arms b represents.board)) in
-    let P : Option Program → Type 0 = λ o. RepresentsBoard new (labels_armed o functions kept b) in
-    let S : SessionSettings → Type 0 =
-    λ t. RepresentsBoard new (labels_armed t.program functions t.points b) in
-    record { board = subst S represents.settings (subst P (sym at) armed); settings = represents.settings }
+    let P : Option Program → Type 0 = λ o.
+    (points ≡ labels_conditional o functions (record { board = b; settings = old.settings }))
+    × RepresentsBoard new (labels_armed o functions kept b) in
+    let S : SessionSettings → Type 0 = λ t.
+    (points ≡ labels_conditional t.program functions (record { board = b; settings = t }))
+    × RepresentsBoard new (labels_armed t.program functions t.points b) in
+    let both : S s.settings = subst S represents.settings (subst P (sym at) armed) in
+    (both.0, record { board = both.1; settings = represents.settings })

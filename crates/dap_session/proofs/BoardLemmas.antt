@@ -23,7 +23,7 @@ use Rattle.lab_core.specs.Events.{or_assembly, cell_meaning, as_answer, parts_of
 use Rattle.lab_core.specs.Events.{after_end}
 use Rattle.lab_core.specs.Changes.{after_write}
 use Rattle.lab_core.specs.Slices.{after_steps}
-use Rattle.dap_editor.specs.declared.message.PlacedBreakpoint.{PlacedBreakpoint}
+use Rattle.dap_messages.specs.declared.message.PlacedBreakpoint.{PlacedBreakpoint}
 use Rattle.dap_editor.specs.declared.request.Launch.{Launch}
 use Rattle.dap_editor.specs.declared.request.LineBreakpoint.{LineBreakpoint}
 use Rattle.dap_editor.specs.declared.request.FunctionBreakpoint.{FunctionBreakpoint}

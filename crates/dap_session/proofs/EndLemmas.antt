@@ -9,10 +9,10 @@ use Rattle.lab_core.specs.declared.answer.SliceOutcome.TheVariants as outcome
 use Rattle.lab_core.specs.declared.run_state.RunState.TheVariants.{Stopped}
 use Rattle.lab_core.specs.Board.{Board}
 use Rattle.lab_core.specs.Slices.{traffic_of, after_steps, left_by}
-use Rattle.lab_core.specs.SliceEnds.{slice_end, after_slice}
+use Rattle.dap_session.specs.Slices.{slice_end_in, after_slice_in}
 use Rattle.dap_talk.specs.declared.command.DapCommand.TheVariants as command
 use Rattle.dap_board.specs.Commands.{command_result}
-use Rattle.dap_editor.specs.declared.message.EditorEvent.{EditorEvent}
+use Rattle.dap_messages.specs.declared.message.EditorEvent.{EditorEvent}
 use Rattle.dap_editor.specs.declared.request.RequestContent.TheVariants as asked
 use Rattle.dap_program.specs.declared.end.EndPolicy.{EndPolicy}
 use Rattle.dap_program.specs.declared.end.EndPolicy.TheVariants.{Exit, Hold}
@@ -93,13 +93,13 @@ ended_by k how s initialized =
           (end_held s.settings.filters s.settings.program how is) (stopped_left policy b is);
     }
 
-ended_so : (p : ℕ × SliceOutcome) (how : End) (s : SessionState) → s.settings.is_initialized ≡ true
+pub ended_so : (p : ℕ × SliceOutcome) (how : End) (s : SessionState) → s.settings.is_initialized ≡ true
     → p.1 ≡ outcome.End how → EndIsTold how s (left_by p.1 (after_steps p.0 s.board)) (slicing p s)
 ended_so (k, ending) how s initialized is =
     subst (λ o. EndIsTold how s (left_by o (after_steps k s.board)) (slicing (k, o) s)) (sym is)
     (ended_by k how s initialized)
 
 pub end_told_so : (how : End) (s : SessionState) → wants_slice s ≡ true → s.settings.is_initialized ≡ true
-    → (slice_end s.board).1 ≡ outcome.End how → EndIsTold how s (after_slice s.board) (slice_told s)
+    → (slice_end_in 4096 s).1 ≡ outcome.End how → EndIsTold how s (after_slice_in 4096 s) (slice_told s)
 unfolding slice_told
-end_told_so how s wants initialized is = rw wants (ended_so (slice_end s.board) how s initialized is)
+end_told_so how s wants initialized is = rw wants (ended_so (slice_end_in 4096 s) how s initialized is)

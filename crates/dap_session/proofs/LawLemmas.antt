@@ -16,8 +16,8 @@ use Rattle.lab_core.specs.declared.fault.EventFault.{EventFault}
 use Rattle.lab_core.specs.declared.fault.EventFault.TheVariants as refused
 use Rattle.lab_core.specs.Board.{Board}
 use Rattle.lab_core.specs.Slices.{traffic_of}
-use Rattle.dap_editor.specs.declared.message.EditorEvent.{EditorEvent}
-use Rattle.dap_editor.specs.declared.message.PlacedBreakpoint.{PlacedBreakpoint}
+use Rattle.dap_messages.specs.declared.message.EditorEvent.{EditorEvent}
+use Rattle.dap_messages.specs.declared.message.PlacedBreakpoint.{PlacedBreakpoint}
 use Rattle.dap_editor.specs.declared.request.RequestContent.{RequestContent}
 use Rattle.dap_editor.specs.declared.request.RequestContent.TheVariants as asked
 use Rattle.dap_editor.specs.declared.request.EditorCommand.TheVariants as editor
@@ -34,9 +34,9 @@ use Rattle.dap_program.specs.declared.opening.LoadReason.TheVariants.{Launch, Re
 use Rattle.dap_program.specs.Failures.{load_event}
 use Rattle.dap_program.specs.Loading.{load_result}
 use Rattle.dap_program.specs.Openings.{changed_events, first_events, opening_events}
-use Rattle.dap_editor.specs.declared.message.EditorEvent.TheVariants as unasked
+use Rattle.dap_messages.specs.declared.message.EditorEvent.TheVariants as unasked
 use Rattle.dap_program.specs.Messages.{as_messages, event_if, events_of}
-use Rattle.lab_core.specs.SliceEnds.{slice_end}
+use Rattle.dap_session.specs.Slices.{slice_end_in}
 use Rattle.i80_devs.specs.Console.{written_to_console}
 use Rattle.dap_program.specs.Slices.{slice_events, console_events, line_events, outcome_events}
 use Rattle.dap_program.specs.Slices.{run_end_events, asks_line}
@@ -75,7 +75,7 @@ answered_slicing (k, ending) s = callers_answered-told
 pub answered_sliced : (s : SessionState) → callers_answered (slice_told s).messages ≡ []
 unfolding slice_told
 answered_sliced s = elim (cases_Bool (wants_slice s)) [
-  | inl so ↦ rw so (answered_slicing (slice_end s.board) s)
+  | inl so ↦ rw so (answered_slicing (slice_end_in 4096 s) s)
   | inr other ↦ rw other refl
 ]
 
@@ -234,7 +234,7 @@ shown_slicing (k, ending) s =
 shown_sliced : (s : SessionState) → console_of (slice_told s).messages ≡ written_by slice s
 unfolding slice_told
 shown_sliced s = elim (cases_Bool (wants_slice s)) [
-  | inl so ↦ rw so (shown_slicing (slice_end s.board) s)
+  | inl so ↦ rw so (shown_slicing (slice_end_in 4096 s) s)
   | inr other ↦ rw other refl
 ]
 

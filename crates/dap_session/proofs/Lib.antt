@@ -1,3 +1,4 @@
+pub mod LoadLemmas
 pub mod LawLemmas
 pub mod SessionLemmas
 pub mod BoardLemmas

@@ -1,13 +1,15 @@
 -- A session's board represents some board after each change.
-use Rattle.std.proofs.Common.{◌≡◌, ◌∙◌, ℕ, ◌&&◌, Bool, true, not, Result, Ok, Err, refl, sym, ap, subst}
-use Rattle.std.proofs.Common.{true≢false}
+use Rattle.std.proofs.Common.{◌≡◌, ◌∙◌, ℕ, List, ◌&&◌, Bool, true, not, Result, Ok, Err, refl}
+use Rattle.std.proofs.Common.{sym, ap, subst, true≢false}
 use Rattle.lab_core.specs.declared.fault.EventFault.{EventFault}
 use Rattle.lab_core.specs.declared.fault.EventFault.TheVariants.{OutOfMemory}
 use Rattle.lab_core.specs.declared.run_state.RunState.{RunState}
 use Rattle.lab_core.specs.declared.run_state.RunState.TheVariants.{NoRun, Running, Stopped}
 use Rattle.lab_core.specs.Board.{Board}
+use Rattle.lab_core.specs.Slices.{after_steps, left_by}
 use Rattle.lab_core.specs.Labs.{LabState, RepresentsBoard, MatchesResult}
-use Rattle.dap_program.specs.SliceEnds.{slice_end_within, after_slice_within}
+use Rattle.dap_slice.specs.declared.conditions.ConditionalBreakpoint.{ConditionalBreakpoint}
+use Rattle.dap_slice.specs.SliceEnds.{slice_end_within}
 use Rattle.dap_answers.specs.declared.answer.Body.{Body}
 use Rattle.dap_board.specs.Commands.{Performed, Performs}
 use Rattle.dap_program.specs.Boards.{RepresentsSomeBoard}
@@ -15,8 +17,8 @@ use Rattle.dap_program.specs.declared.slice.Slice.{Slice}
 use Rattle.dap_editor.specs.declared.request.ExceptionFilters.{ExceptionFilters}
 use Rattle.dap_program.specs.Ends.{held_at_end}
 use Rattle.dap_program.specs.Slices.{IsSliceOf}
-use Rattle.dap_editor.specs.declared.message.EditorBody.TheVariants.{Board as OfBoard}
-use Rattle.dap_editor.specs.declared.message.EditorOutcome.TheVariants.{Success}
+use Rattle.dap_messages.specs.declared.message.EditorBody.TheVariants.{Board as OfBoard}
+use Rattle.dap_messages.specs.declared.message.EditorOutcome.TheVariants.{Success}
 use Rattle.dap_program.specs.declared.messages.FollowUp.TheVariants.{Ended}
 use Rattle.dap_program.specs.Boards.{after}
 use Rattle.lab_core.specs.declared.event.Event.TheVariants.{Interrupt}
@@ -42,18 +44,19 @@ running_is Running w is = refl
 running_is Stopped w is = absurd (true≢false (sym is))
 
 -- a slice of a run that goes on
-pub stands_sliced : (n : ℕ) (held : ExceptionFilters) (asked : Bool) (old : SessionFields)
-    (lab new : LabState)
-    (slice : Slice)
+pub stands_sliced : (points : List ConditionalBreakpoint) (n : ℕ) (held : ExceptionFilters) (asked : Bool)
+    (old : SessionFields) (lab new : LabState) (slice : Slice)
     → lab ≡ old.lab → ((s : SessionState) → RepresentsSession old s → wants_slice s ≡ true)
-    → ((b : Board) → RepresentsBoard lab b → b.run ≡ Running → IsSliceOf n held asked b slice new)
+    → ((b : Board) → RepresentsBoard lab b → b.run ≡ Running
+    → IsSliceOf (slice_end_within points n b) held asked b slice new)
     → RepresentsSomeBoard lab → RepresentsSomeBoard new
-stands_sliced n held asked old lab new slice same wants made (b, represents) =
+stands_sliced points n held asked old lab new slice same wants made (b, represents) =
+    let end = slice_end_within points n b in
     let s : SessionState = record { board = b; settings = old.settings } in
     let viewed : RepresentsSession old s =
     record { board = subst (λ l. RepresentsBoard l b) same represents; settings = refl } in
     let running : b.run ≡ Running = running_is b.run (not old.settings.waits) (wants s viewed) in (
-      held_at_end held (slice_end_within n b).1 (after_slice_within n b),
+      held_at_end held end.1 (left_by end.1 (after_steps end.0 b)),
       (made b represents
           running).represents,
     )

@@ -19,7 +19,7 @@ use Rattle.lab_core.specs.declared.run_state.RunState.TheVariants.{NoRun, Runnin
 use Rattle.lab_core.specs.Board.{Board}
 use Rattle.lab_core.specs.Events.{result_of}
 use Rattle.lab_core.specs.Slices.{traffic_of, after_steps, left_by}
-use Rattle.lab_core.specs.SliceEnds.{slice_end}
+use Rattle.dap_session.specs.Slices.{slice_end_in}
 use Rattle.i80_devs.specs.Console.{written_to_console}
 use Rattle.dap_answers.specs.declared.answer.Body.TheVariants as body
 use Rattle.dap_answers.specs.Murmur.{cell_path}
@@ -34,7 +34,7 @@ use Rattle.dap_editor.specs.declared.request.EditorCommand.TheVariants as editor
 use Rattle.dap_program.specs.Messages.{as_messages}
 use Rattle.dap_program.specs.Slices.{console_events, line_events, outcome_events, run_end_events}
 use Rattle.dap_program.specs.Slices.{asks_line}
-use Rattle.dap_editor.specs.declared.message.UndefinedOpcode.{UndefinedOpcode}
+use Rattle.dap_messages.specs.declared.message.UndefinedOpcode.{UndefinedOpcode}
 use Rattle.dap_editor.specs.declared.request.Launch.{Launch as LaunchOf}
 use Rattle.dap_program.specs.declared.end.EndPolicy.{EndPolicy}
 use Rattle.dap_program.specs.declared.end.EndPolicy.TheVariants.{Exit, Hold}
@@ -335,7 +335,7 @@ pub follows_sliced : (s : SessionState) → IsReached (seen s)
 unfolding slice_told
 follows_sliced s reached = elim (cases_Bool (wants_slice s)) [
   | inl so ↦
-      rw so (follows_slicing (slice_end s.board) s reached
+      rw so (follows_slicing (slice_end_in 4096 s) s reached
       (running_has s.board.run (and_parts (is_running s.board.run) (not s.settings.waits) so).0))
   | inr other ↦ rw other (still s s reached refl).follows
 ]

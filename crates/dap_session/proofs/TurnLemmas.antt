@@ -21,7 +21,7 @@ use Rattle.dap_answers.specs.declared.answer.StopReason.TheVariants.{Pause as By
 use Rattle.dap_talk.specs.declared.command.DapCommand.TheVariants as command
 use Rattle.dap_board.specs.Bodies.{body_of}
 use Rattle.dap_board.specs.Commands.{command_result, with_body}
-use Rattle.dap_editor.specs.declared.message.EditorStop.TheVariants.{Board as AtBoard, Goto}
+use Rattle.dap_messages.specs.declared.message.EditorStop.TheVariants.{Board as AtBoard, Goto}
 use Rattle.dap_editor.specs.declared.request.LineBreakpoint.{LineBreakpoint}
 use Rattle.dap_editor.specs.declared.request.FunctionBreakpoint.{FunctionBreakpoint}
 use Rattle.dap_editor.specs.declared.request.EvaluateContext.{EvaluateContext}
@@ -41,7 +41,7 @@ use Rattle.dap_launch.specs.declared.program.Phase.{Phase}
 use Rattle.dap_launch.specs.declared.program.Phase.TheVariants as phase
 use Rattle.dap_launch.specs.declared.program.Program.{Program}
 use Rattle.dap_launch.specs.Lives.{is_over, is_live, released_phase, released_program}
-use Rattle.dap_editor.specs.declared.message.EditorEvent.TheVariants as event_told
+use Rattle.dap_messages.specs.declared.message.EditorEvent.TheVariants as event_told
 use Rattle.dap_program.specs.Messages.{as_messages, event_if, change_events, events_of}
 use Rattle.dap_session.specs.States.{SessionState, with_board, program_over, program_released}
 use Rattle.dap_session.specs.Turns.{Replied, change_follow, refusing, accepting}

@@ -3,17 +3,18 @@ use Rattle.std.specs.Prelude.{ℕ, List, [], take, Option, Some, None, codes, if
 use Rattle.std.specs.Str.{bytes_eq}
 use Rattle.base_text.specs.Bytes.{Text}
 use Rattle.lab_core.specs.Board.{Board}
-use Rattle.dap_editor.specs.declared.message.EditorBody.TheVariants.{Breakpoints, Locations}
+use Rattle.dap_messages.specs.declared.message.EditorBody.TheVariants.{Breakpoints, Locations}
 use Rattle.dap_editor.specs.declared.request.LineBreakpoint.{LineBreakpoint}
 use Rattle.dap_editor.specs.declared.request.FunctionBreakpoint.{FunctionBreakpoint}
 use Rattle.dap_points.specs.declared.points.SourceLines.{SourceLines}
 use Rattle.dap_points.specs.Points.{WantedBreakpointsState, number_of, has_place, lines_at, with_lines}
+use Rattle.dap_slice.specs.declared.conditions.ConditionalBreakpoint.{ConditionalBreakpoint}
 use Rattle.dap_program.specs.declared.messages.FollowUp.TheVariants.{Nothing}
-use Rattle.dap_program.specs.CodeLines.{locations}
+use Rattle.dap_lines.specs.CodeLines.{locations}
 use Rattle.dap_launch.specs.declared.program.Program.{Program}
-use Rattle.dap_launch.specs.Programs.{armed_with}
+use Rattle.dap_launch.specs.Programs.{armed_with, conditional_with}
 use Rattle.dap_launch.specs.Points.{points_where, labels_where}
-use Rattle.dap_session.specs.States.{SessionState, with_board, with_points}
+use Rattle.dap_session.specs.States.{SessionState, with_board, with_points, with_conditional}
 use Rattle.dap_session.specs.Turns.{Replied, refusing, succeeding}
 
 -- ---- lines
@@ -35,11 +36,22 @@ lines_armed l s =
     (take 256 l.lines) (take 256 kept.functions) s.board)
     s
 
+-- those of the program that have conditions; if it isn't this source they stay what they were
+abbrev pub conditional_where : Option Program → SourceLines → SessionState → List ConditionalBreakpoint
+conditional_where None l s = s.settings.conditional
+conditional_where (Some program) l s =
+    let kept = s.settings.points in
+    conditional_with (number_of l.path kept.lists) (take 256 l.lines) (take 256 kept.functions) s.board
+
+abbrev pub lines_conditional : SourceLines → SessionState → List ConditionalBreakpoint
+lines_conditional l s = conditional_where (program_at l.path s.settings.program) l s
+
 abbrev pub lines_set : SourceLines → SessionState → Replied
 lines_set l s =
     let kept = s.settings.points in
     let points = points_where s.settings.program s.board (number_of l.path kept.lists) l in
-    succeeding (Breakpoints points) Nothing (with_points (with_lines l.path l.lines kept) (lines_armed l s))
+    succeeding (Breakpoints points) Nothing (with_points (with_lines l.path l.lines kept)
+    (with_conditional (lines_conditional l s) (lines_armed l s)))
 
 abbrev pub setting_lines : Text → List LineBreakpoint → SessionState → Replied
 setting_lines path lines s =
@@ -54,13 +66,22 @@ labels_armed (Some program) functions p b =
     let path = program.launch.program in
     armed_with program (number_of path p.lists) (lines_at path p.lists) functions b
 
+abbrev pub labels_conditional : Option Program → List FunctionBreakpoint → SessionState
+    → List ConditionalBreakpoint
+labels_conditional None functions s = s.settings.conditional
+labels_conditional (Some program) functions s =
+    let path = program.launch.program in
+    let kept = s.settings.points in
+    conditional_with (number_of path kept.lists) (lines_at path kept.lists) functions s.board
+
 abbrev pub setting_functions : List FunctionBreakpoint → SessionState → Replied
 setting_functions functions s =
     let p = s.settings.points in
     let program = s.settings.program in
     succeeding (Breakpoints (labels_where program p functions s.board)) Nothing
     (with_board (labels_armed program functions p s.board)
-    (with_points (record p { functions = functions }) s))
+    (with_points (record p { functions = functions })
+    (with_conditional (labels_conditional program functions s) s)))
 
 -- ---- locations
 

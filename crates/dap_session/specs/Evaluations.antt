@@ -4,7 +4,7 @@ use Rattle.base_text.specs.Bytes.{Text}
 use Rattle.dap_board.specs.Commands.{Performed, command_result}
 use Rattle.dap_editor.specs.declared.request.EvaluateContext.{EvaluateContext}
 use Rattle.dap_editor.specs.declared.request.EvaluateContext.TheVariants.{Repl, Watch, Other}
-use Rattle.dap_editor.specs.declared.message.EditorBody.TheVariants.{Evaluation}
+use Rattle.dap_messages.specs.declared.message.EditorBody.TheVariants.{Evaluation}
 use Rattle.dap_inspect.specs.declared.fault.EvaluateFault.{EvaluateFault}
 use Rattle.dap_inspect.specs.Expressions.{expression_text, message_of}
 use Rattle.dap_program.specs.declared.messages.FollowUp.TheVariants.{Nothing}

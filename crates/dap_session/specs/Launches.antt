@@ -11,7 +11,7 @@ use Rattle.dap_launch.specs.Files.{text_in}
 use Rattle.dap_launch.specs.Lives.{in_phase}
 use Rattle.dap_launch.specs.Programs.{program_of, begun_follow}
 use Rattle.dap_launch.specs.Points.{all_changed}
-use Rattle.dap_launch.specs.Programs.{program_board, begun_board, board_if, begun_if}
+use Rattle.dap_launch.specs.Programs.{program_board, program_conditions, begun_board, board_if, begun_if}
 use Rattle.dap_program.specs.declared.load.LoadFault.{LoadFault}
 use Rattle.dap_program.specs.declared.messages.FollowUp.{FollowUp}
 use Rattle.dap_program.specs.declared.messages.FollowUp.TheVariants.{Nothing}
@@ -20,7 +20,7 @@ use Rattle.dap_program.specs.declared.opening.LoadReason.TheVariants.{Launch, Re
 use Rattle.dap_program.specs.Failures.{load_refusal, load_event}
 use Rattle.dap_program.specs.Loading.{load_result}
 use Rattle.dap_program.specs.Openings.{opening_events, accepted_outcome}
-use Rattle.dap_session.specs.States.{SessionState, with_board, with_program}
+use Rattle.dap_session.specs.States.{SessionState, with_board, with_program, with_conditional}
 use Rattle.dap_session.specs.Turns.{Turn, Replied, turn_of, refusing, accepting}
 
 -- ---- how it begins
@@ -58,7 +58,8 @@ installing cause p b s =
       outcome = accepted_outcome;
       events = opening_events cause (all_changed s.settings.program s.board p kept b) follow;
       state =
-          with_board (board_if begins p (program_board p kept b)) (with_program (Some (begun_if begins p)) s);
+          with_board (board_if begins p (program_board p kept b))
+          (with_conditional (program_conditions p kept b) (with_program (Some (begun_if begins p)) s));
     }
 
 -- it can't be loaded

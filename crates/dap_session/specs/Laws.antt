@@ -9,14 +9,14 @@ use Rattle.lab_core.specs.declared.run_state.RunState.{RunState}
 use Rattle.lab_core.specs.declared.run_state.RunState.TheVariants.{NoRun, Running, Stopped}
 use Rattle.lab_core.specs.Board.{Board}
 use Rattle.lab_core.specs.Slices.{traffic_of}
-use Rattle.dap_editor.specs.declared.message.EditorEvent.{EditorEvent}
-use Rattle.dap_editor.specs.declared.message.EditorEvent.TheVariants as event
-use Rattle.dap_editor.specs.declared.message.EditorStop.TheVariants.{Goto}
-use Rattle.dap_editor.specs.declared.message.Message.{Message}
-use Rattle.dap_editor.specs.declared.message.Message.TheVariants as message
-use Rattle.dap_editor.specs.declared.message.EditorOutcome.{EditorOutcome}
-use Rattle.dap_editor.specs.declared.message.EditorOutcome.TheVariants.{Refused}
-use Rattle.dap_editor.specs.declared.message.OutputCategory.TheVariants.{Stdout}
+use Rattle.dap_messages.specs.declared.message.EditorEvent.{EditorEvent}
+use Rattle.dap_messages.specs.declared.message.EditorEvent.TheVariants as event
+use Rattle.dap_messages.specs.declared.message.EditorStop.TheVariants.{Goto}
+use Rattle.dap_messages.specs.declared.message.Message.{Message}
+use Rattle.dap_messages.specs.declared.message.Message.TheVariants as message
+use Rattle.dap_messages.specs.declared.message.EditorOutcome.{EditorOutcome}
+use Rattle.dap_messages.specs.declared.message.EditorOutcome.TheVariants.{Refused}
+use Rattle.dap_messages.specs.declared.message.OutputCategory.TheVariants.{Stdout}
 use Rattle.dap_editor.specs.declared.request.EvaluateContext.TheVariants as context
 use Rattle.dap_talk.specs.declared.command.DapCommand.TheVariants as command
 use Rattle.dap_board.specs.Commands as board
@@ -28,7 +28,7 @@ use Rattle.dap_program.specs.declared.end.EndPolicy.TheVariants.{Hold}
 use Rattle.dap_program.specs.Ends.{exit_code}
 use Rattle.dap_program.specs.Messages.{as_messages, end_events}
 use Rattle.dap_program.specs.Slices.{policy_events}
-use Rattle.lab_core.specs.SliceEnds.{slice_end}
+use Rattle.dap_session.specs.Slices.{slice_end_in}
 use Rattle.i80_devs.specs.Console.{written_to_console}
 use Rattle.dap_launch.specs.declared.program.Phase.{Phase}
 use Rattle.dap_launch.specs.declared.program.Phase.TheVariants as phase
@@ -72,7 +72,7 @@ written_in (k, ending) b = filter_map written_to_console (traffic_of k b)
 
 abbrev pub written_by : Input → SessionState → Bytes
 written_by (request r found) s = []
-written_by slice s = if wants_slice s then written_in (slice_end s.board) s.board else []
+written_by slice s = if wants_slice s then written_in (slice_end_in 4096 s) s.board else []
 
 -- the bytes that the steps of all slices write, in order
 abbrev pub all_written : List Input → SessionState → Bytes

@@ -7,8 +7,8 @@ use Rattle.lab_views.specs.Code.{lines_from, after_instructions}
 use Rattle.dap_answers.specs.declared.answer.Body.TheVariants.{Instructions}
 use Rattle.dap_editor.specs.declared.request.SignedOffset.{SignedOffset}
 use Rattle.dap_editor.specs.declared.request.SignedOffset.TheVariants.{Forward, Back}
-use Rattle.dap_editor.specs.declared.message.EditorBody.{EditorBody}
-use Rattle.dap_editor.specs.declared.message.EditorBody.TheVariants as body
+use Rattle.dap_messages.specs.declared.message.EditorBody.{EditorBody}
+use Rattle.dap_messages.specs.declared.message.EditorBody.TheVariants as body
 use Rattle.dap_inspect.specs.Memory.{bytes_from}
 use Rattle.dap_inspect.specs.Instructions.{before_instructions}
 use Rattle.dap_program.specs.Memory.{address_at}

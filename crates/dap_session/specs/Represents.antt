@@ -2,14 +2,13 @@
 use Rattle.std.specs.Prelude.{◌≡◌, ℕ, Result, List, OnErr, IfOk, true}
 use Rattle.std.specs.declared.alloc.AllocError.{AllocError}
 use Rattle.lab_core.specs.Labs.{LabState, RepresentsBoard}
-use Rattle.dap_editor.specs.declared.message.Message.{Message}
+use Rattle.dap_messages.specs.declared.message.Message.{Message}
 use Rattle.dap_session.specs.declared.settings.SessionSettings.{SessionSettings}
 use Rattle.dap_launch.specs.declared.reply.Reply.{Reply}
 use Rattle.dap_session.specs.States.{SessionState, wants_slice}
 use Rattle.dap_session.specs.Turns.{Replied}
-use Rattle.dap_session.specs.Slices.{Told, slicing}
+use Rattle.dap_session.specs.Slices.{Told, slicing, slice_end_in}
 use Rattle.dap_session.specs.declared.session.RunSlice.{RunSlice}
-use Rattle.dap_program.specs.SliceEnds.{slice_end_within}
 
 -- what a contract sees of a session
 pub record SessionFields : Type 0 where
@@ -56,5 +55,5 @@ WantsSlice v = (s : SessionState) → RepresentsSession v s → wants_slice s �
 
 -- a slice of at most n steps was made
 pub record SlicesWithin (n : ℕ) (s : SessionState) (slice : RunSlice) (new : SessionFields) : Type 0 where
-  pub executed : slice.executed ≡ (slice_end_within n s.board).0
-  pub told : Tells (slicing (slice_end_within n s.board) s) slice.messages new
+  pub executed : slice.executed ≡ (slice_end_in n s).0
+  pub told : Tells (slicing (slice_end_in n s) s) slice.messages new

@@ -1,5 +1,5 @@
 -- What each request is answered by, and the session after it (Debug Adapter Protocol, "Requests").
-use Rattle.std.specs.Prelude.{ℕ, List, true, false, not, ◌||◌, Option, Some}
+use Rattle.std.specs.Prelude.{ℕ, List, true, not, ◌||◌, Option, Some}
 use Rattle.std.specs.Prelude.{None, Ok, Err, option_to_list, option_map, codes, if◌then◌else◌}
 use Rattle.base_text.specs.Bytes.{Text}
 use Rattle.lab_core.specs.declared.answer.End.{End}
@@ -8,9 +8,9 @@ use Rattle.dap_answers.specs.declared.answer.StopReason.TheVariants.{Pause as By
 use Rattle.dap_talk.specs.declared.command.DapCommand.{DapCommand}
 use Rattle.dap_talk.specs.declared.command.DapCommand.TheVariants as command
 use Rattle.dap_board.specs.Commands.{Performed, command_result}
-use Rattle.dap_editor.specs.declared.message.UndefinedOpcode.{UndefinedOpcode}
-use Rattle.dap_editor.specs.declared.message.EditorBody.TheVariants as body
-use Rattle.dap_editor.specs.declared.message.EditorStop.TheVariants.{Board as AtBoard}
+use Rattle.dap_messages.specs.declared.message.UndefinedOpcode.{UndefinedOpcode}
+use Rattle.dap_messages.specs.declared.message.EditorBody.TheVariants as body
+use Rattle.dap_messages.specs.declared.message.EditorStop.TheVariants.{Board as AtBoard}
 use Rattle.dap_editor.specs.declared.request.RequestContent.{RequestContent}
 use Rattle.dap_editor.specs.declared.request.RequestContent.TheVariants as asked
 use Rattle.dap_editor.specs.declared.request.EditorCommand.{EditorCommand}

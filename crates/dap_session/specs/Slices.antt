@@ -4,11 +4,12 @@ use Rattle.std.specs.Prelude.{if◌then◌else◌}
 use Rattle.lab_core.specs.declared.answer.SliceOutcome.{SliceOutcome}
 use Rattle.lab_core.specs.declared.answer.SliceOutcome.TheVariants as outcome
 use Rattle.lab_core.specs.Slices.{traffic_of, after_steps, left_by}
-use Rattle.dap_editor.specs.declared.message.Message.{Message}
+use Rattle.dap_messages.specs.declared.message.Message.{Message}
 use Rattle.dap_editor.specs.declared.request.EditorRequest.{EditorRequest}
 use Rattle.dap_program.specs.declared.messages.RequestId.{RequestId}
 use Rattle.dap_program.specs.Messages.{as_messages, turn_messages}
-use Rattle.lab_core.specs.SliceEnds.{slice_end}
+use Rattle.lab_core.specs.Board.{Board}
+use Rattle.dap_slice.specs.SliceEnds.{slice_end_within, after_slice_within}
 use Rattle.dap_program.specs.Ends.{held_at_end}
 use Rattle.dap_program.specs.Slices.{slice_events, asks_line}
 use Rattle.dap_launch.specs.Lives.{held_ends, ended_program}
@@ -49,9 +50,17 @@ slicing (k, ending) s =
       };
     }
 
+-- where a slice of at most n steps ends, and how
+abbrev pub slice_end_in : ℕ → SessionState → ℕ × SliceOutcome
+slice_end_in n s = slice_end_within s.settings.conditional n s.board
+
+-- the board after it
+abbrev pub after_slice_in : ℕ → SessionState → Board
+after_slice_in n s = after_slice_within s.settings.conditional n s.board
+
 -- a slice of the run, if one goes on
 unfoldable pub slice_told : SessionState → Told
-slice_told s = if wants_slice s then slicing (slice_end s.board) s else record { messages = []; state = s }
+slice_told s = if wants_slice s then slicing (slice_end_in 4096 s) s else record { messages = []; state = s }
 
 -- ---- a request
 

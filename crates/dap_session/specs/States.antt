@@ -1,5 +1,5 @@
 -- A debugger's session: a board, and what the editor asked for so far.
-use Rattle.std.specs.Prelude.{Bool, true, false, not, ◌&&◌, Option, Some, None, option_map}
+use Rattle.std.specs.Prelude.{List, [], Bool, true, false, not, ◌&&◌, Option, Some, None, option_map}
 use Rattle.lab_core.specs.declared.run_state.RunState.{RunState}
 use Rattle.lab_core.specs.declared.run_state.RunState.TheVariants.{NoRun, Running, Stopped}
 use Rattle.lab_core.specs.Board.{Board, opening}
@@ -7,6 +7,7 @@ use Rattle.dap_editor.specs.declared.request.ExceptionFilters.{ExceptionFilters}
 use Rattle.dap_editor.specs.declared.request.SupportedEvents.{SupportedEvents}
 use Rattle.dap_editor.specs.Argument.{no_filters}
 use Rattle.dap_points.specs.Points.{WantedBreakpointsState, no_points}
+use Rattle.dap_slice.specs.declared.conditions.ConditionalBreakpoint.{ConditionalBreakpoint}
 use Rattle.dap_launch.specs.declared.program.Phase.TheVariants as phase
 use Rattle.dap_launch.specs.declared.program.Program.{Program}
 use Rattle.dap_launch.specs.Lives.{in_phase, released_program}
@@ -30,6 +31,7 @@ session_before_requests = record {
     supported = no_events;
     program = None;
     points = no_points;
+    conditional = [];
     filters = no_filters;
     waits = false;
     has_asked = false;
@@ -45,6 +47,9 @@ with_program p s = record s { settings = record s.settings { program = p } }
 
 abbrev pub with_points : WantedBreakpointsState → SessionState → SessionState
 with_points p s = record s { settings = record s.settings { points = p } }
+
+abbrev pub with_conditional : List ConditionalBreakpoint → SessionState → SessionState
+with_conditional points s = record s { settings = record s.settings { conditional = points } }
 
 abbrev pub with_filters : ExceptionFilters → SessionState → SessionState
 with_filters filters s = record s { settings = record s.settings { filters = filters } }

@@ -3,13 +3,13 @@ use Rattle.std.specs.Prelude.{ℕ, Option, Some, None, if◌then◌else◌}
 use Rattle.base_text.specs.Bytes.{Text}
 use Rattle.lab_core.specs.declared.fault.EventFault.TheVariants.{NotStopped}
 use Rattle.lab_core.specs.Board.{Board}
-use Rattle.dap_editor.specs.declared.message.EditorBody.TheVariants as body
-use Rattle.dap_editor.specs.declared.message.EditorStop.TheVariants.{Goto}
-use Rattle.dap_editor.specs.declared.message.GotoTarget.{GotoTarget}
+use Rattle.dap_messages.specs.declared.message.EditorBody.TheVariants as body
+use Rattle.dap_messages.specs.declared.message.EditorStop.TheVariants.{Goto}
+use Rattle.dap_messages.specs.declared.message.GotoTarget.{GotoTarget}
 use Rattle.dap_program.specs.declared.messages.FollowUp.TheVariants.{Nothing, Stopped}
 use Rattle.dap_program.specs.Boards.{after_goto}
 use Rattle.dap_program.specs.Refusals.{board_refusal}
-use Rattle.dap_program.specs.Targets.{first_target}
+use Rattle.dap_lines.specs.Targets.{first_target}
 use Rattle.dap_launch.specs.declared.program.Program.{Program}
 use Rattle.dap_session.specs.States.{SessionState, with_board, program_released}
 use Rattle.dap_session.specs.Turns.{Replied, refusing, succeeding, accepting}

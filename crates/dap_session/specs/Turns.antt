@@ -2,11 +2,11 @@
 use Rattle.std.specs.Prelude.{List, if◌then◌else◌}
 use Rattle.base_text.specs.Bytes.{Text}
 use Rattle.dap_answers.specs.declared.answer.Body.TheVariants as board
-use Rattle.dap_editor.specs.declared.message.EditorBody.{EditorBody}
-use Rattle.dap_editor.specs.declared.message.EditorBody.TheVariants as body
-use Rattle.dap_editor.specs.declared.message.EditorEvent.{EditorEvent}
-use Rattle.dap_editor.specs.declared.message.EditorOutcome.{EditorOutcome}
-use Rattle.dap_editor.specs.declared.message.EditorOutcome.TheVariants as outcome
+use Rattle.dap_messages.specs.declared.message.EditorBody.{EditorBody}
+use Rattle.dap_messages.specs.declared.message.EditorBody.TheVariants as body
+use Rattle.dap_messages.specs.declared.message.EditorEvent.{EditorEvent}
+use Rattle.dap_messages.specs.declared.message.EditorOutcome.{EditorOutcome}
+use Rattle.dap_messages.specs.declared.message.EditorOutcome.TheVariants as outcome
 use Rattle.dap_program.specs.declared.messages.FollowUp.{FollowUp}
 use Rattle.dap_program.specs.declared.messages.FollowUp.TheVariants.{Nothing, Changed}
 use Rattle.dap_program.specs.Messages.{events_of}

@@ -20,14 +20,15 @@ mod targets;
 
 use crate::settings::{NO_EVENTS, SessionSettings};
 use base_text::sequence::Sequence;
-use dap_editor::message::Message;
 use dap_editor::request::{EditorCommand, EditorRequest, RequestContent};
 use dap_inputs::inputs::ends_question;
 use dap_launch::file::FileText;
 use dap_launch::life::NO_FILTERS;
 use dap_launch::reply::{Reply, refuse};
+use dap_messages::message::Message;
 use dap_points::points::WantedBreakpoints;
 use dap_program::messages::{Messages, RequestId};
+use dap_slice::conditions::ConditionalBreakpoints;
 use lab_core::lab::Lab;
 use lab_core::run_state::RunState;
 use std::alloc::{AllocError, Global};
@@ -57,10 +58,14 @@ impl Drop for Session {
 }
 
 impl Model for Session {
+    ghost use Rattle.std.specs.Coded.{codes};
+    ghost use Rattle.asm_expr.specs.contracts.expression.Expr as expr;
     ghost use Rattle.dap_program.specs.Boards.{RepresentsSomeBoard};
     ghost use Rattle.dap_session.specs.Represents.{SessionFields};
 
     ghost Value = { SessionFields };
+
+    ghost coded = { Prim.hlevel (codes, expr.the_row.coded) };
 
     ghost view = { λ s. record { lab = s.lab; settings = s.settings } };
 
@@ -73,6 +78,7 @@ impl Session {
         ensures { IfOk result (λ session. RepresentsSession session session_before_requests) }
     {
         let points = WantedBreakpoints::new(alloc)?;
+        let conditional = ConditionalBreakpoints::new(alloc)?;
         let lab = Lab::new(alloc)?;
         Ok(Session {
             lab,
@@ -82,6 +88,7 @@ impl Session {
                 supported: NO_EVENTS,
                 program: None,
                 points,
+                conditional,
                 filters: NO_FILTERS,
                 waits: false,
                 has_asked: false,
@@ -100,11 +107,7 @@ impl Session {
     ) -> Result<Sequence<Message>, AllocError>
         ensures { TellsAs (request_told request file) self.old result self.new }
     {
-        let EditorRequest {
-            seq,
-            command,
-            asked,
-        } = request;
+        let (seq, command, asked) = request.into_parts();
         let caller = RequestId { seq, command };
         let result = self.take_turn(alloc, caller, &asked, &file);
         drop(asked);

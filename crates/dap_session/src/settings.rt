@@ -3,6 +3,7 @@
 use dap_editor::request::{ExceptionFilters, SupportedEvents};
 use dap_launch::program::Program;
 use dap_points::points::WantedBreakpoints;
+use dap_slice::conditions::ConditionalBreakpoints;
 
 /// Of an editor that understands no event beside those that each must.
 pub const NO_EVENTS: SupportedEvents = SupportedEvents {
@@ -17,6 +18,8 @@ pub struct SessionSettings {
     pub supported: SupportedEvents,
     pub program: Option<Program>,
     pub points: WantedBreakpoints,
+    /// Those of the program that have conditions.
+    pub conditional: ConditionalBreakpoints,
     /// The ends at which a run is to be held.
     pub filters: ExceptionFilters,
     /// The last slice ended where the run waits for a button, and no request has come since.
@@ -36,6 +39,7 @@ impl Drop for SessionSettings {
             supported: _,
             program: _,
             points: _,
+            conditional: _,
             filters: _,
             waits: _,
             has_asked: _,

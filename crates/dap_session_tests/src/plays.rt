@@ -10,7 +10,7 @@ continue
 initialize
   1 "initialize" true {"exceptionBreakpointFilters":[{"default":true,"filter":"undefined",
     "label":"Undefined opcodes"},{"default":false,"filter":"halt","label":"HLT"}],
-    "supportsBreakpointLocationsRequest":true,
+    "supportsBreakpointLocationsRequest":true,"supportsConditionalBreakpoints":true,
     "supportsConfigurationDoneRequest":true,"supportsDisassembleRequest":true,
     "supportsEvaluateForHovers":true,"supportsExceptionInfoRequest":true,
     "supportsFunctionBreakpoints":true,"supportsGotoTargetsRequest":true,
@@ -57,7 +57,7 @@ const STEPS: &str = r#"
 initialize
   0 "initialize" true {"exceptionBreakpointFilters":[{"default":true,"filter":"undefined",
     "label":"Undefined opcodes"},{"default":false,"filter":"halt","label":"HLT"}],
-    "supportsBreakpointLocationsRequest":true,
+    "supportsBreakpointLocationsRequest":true,"supportsConditionalBreakpoints":true,
     "supportsConfigurationDoneRequest":true,"supportsDisassembleRequest":true,
     "supportsEvaluateForHovers":true,"supportsExceptionInfoRequest":true,
     "supportsFunctionBreakpoints":true,"supportsGotoTargetsRequest":true,
@@ -115,7 +115,7 @@ const ENDS: &str = r#"
 initialize
   0 "initialize" true {"exceptionBreakpointFilters":[{"default":true,"filter":"undefined",
     "label":"Undefined opcodes"},{"default":false,"filter":"halt","label":"HLT"}],
-    "supportsBreakpointLocationsRequest":true,
+    "supportsBreakpointLocationsRequest":true,"supportsConditionalBreakpoints":true,
     "supportsConfigurationDoneRequest":true,"supportsDisassembleRequest":true,
     "supportsEvaluateForHovers":true,"supportsExceptionInfoRequest":true,
     "supportsFunctionBreakpoints":true,"supportsGotoTargetsRequest":true,
@@ -169,7 +169,7 @@ const HELD: &str = r#"
 initialize
   0 "initialize" true {"exceptionBreakpointFilters":[{"default":true,"filter":"undefined",
     "label":"Undefined opcodes"},{"default":false,"filter":"halt","label":"HLT"}],
-    "supportsBreakpointLocationsRequest":true,
+    "supportsBreakpointLocationsRequest":true,"supportsConditionalBreakpoints":true,
     "supportsConfigurationDoneRequest":true,"supportsDisassembleRequest":true,
     "supportsEvaluateForHovers":true,"supportsExceptionInfoRequest":true,
     "supportsFunctionBreakpoints":true,"supportsGotoTargetsRequest":true,
@@ -240,7 +240,7 @@ const UNHELD: &str = r#"
 initialize
   0 "initialize" true {"exceptionBreakpointFilters":[{"default":true,"filter":"undefined",
     "label":"Undefined opcodes"},{"default":false,"filter":"halt","label":"HLT"}],
-    "supportsBreakpointLocationsRequest":true,
+    "supportsBreakpointLocationsRequest":true,"supportsConditionalBreakpoints":true,
     "supportsConfigurationDoneRequest":true,"supportsDisassembleRequest":true,
     "supportsEvaluateForHovers":true,"supportsExceptionInfoRequest":true,
     "supportsFunctionBreakpoints":true,"supportsGotoTargetsRequest":true,
@@ -266,7 +266,7 @@ const CHANGES: &str = r#"
 initialize {"supportsInvalidatedEvent":true,"supportsMemoryEvent":true}
   0 "initialize" true {"exceptionBreakpointFilters":[{"default":true,"filter":"undefined",
     "label":"Undefined opcodes"},{"default":false,"filter":"halt","label":"HLT"}],
-    "supportsBreakpointLocationsRequest":true,
+    "supportsBreakpointLocationsRequest":true,"supportsConditionalBreakpoints":true,
     "supportsConfigurationDoneRequest":true,"supportsDisassembleRequest":true,
     "supportsEvaluateForHovers":true,"supportsExceptionInfoRequest":true,
     "supportsFunctionBreakpoints":true,"supportsGotoTargetsRequest":true,
@@ -327,7 +327,7 @@ continue
 initialize {"supportsInvalidatedEvent":false,"supportsMemoryEvent":true}
   2 "initialize" true {"exceptionBreakpointFilters":[{"default":true,"filter":"undefined",
     "label":"Undefined opcodes"},{"default":false,"filter":"halt","label":"HLT"}],
-    "supportsBreakpointLocationsRequest":true,
+    "supportsBreakpointLocationsRequest":true,"supportsConditionalBreakpoints":true,
     "supportsConfigurationDoneRequest":true,"supportsDisassembleRequest":true,
     "supportsEvaluateForHovers":true,"supportsExceptionInfoRequest":true,
     "supportsFunctionBreakpoints":true,"supportsGotoTargetsRequest":true,

@@ -1,4 +1,4 @@
-//! A play about breakpoints.
+//! Plays about breakpoints.
 
 use crate::rows::first_other;
 use std::test::Fail;
@@ -8,7 +8,7 @@ const POINTS: &str = r#"
 initialize
   0 "initialize" true {"exceptionBreakpointFilters":[{"default":true,"filter":"undefined",
     "label":"Undefined opcodes"},{"default":false,"filter":"halt","label":"HLT"}],
-    "supportsBreakpointLocationsRequest":true,
+    "supportsBreakpointLocationsRequest":true,"supportsConditionalBreakpoints":true,
     "supportsConfigurationDoneRequest":true,"supportsDisassembleRequest":true,
     "supportsEvaluateForHovers":true,"supportsExceptionInfoRequest":true,
     "supportsFunctionBreakpoints":true,"supportsGotoTargetsRequest":true,
@@ -18,20 +18,22 @@ initialize
 launch {"program":"count.asm"} < letters
   1 "launch" true {}
   "initialized"
-setBreakpoints {"source":{"path":"count.asm"},"breakpoints":[{"line":1},{"line":8},{"line":6,"condition":"A"},{"line":7}]}
+setBreakpoints {"source":{"path":"count.asm"},"breakpoints":[{"line":1},{"line":8},
+    {"line":6,"condition":"A"},{"line":7}]}
   2 "setBreakpoints" true {"breakpoints":[
     {"id":257,"line":3,"message":"moved from line 1","verified":true},
     {"id":258,"line":8,"message":"no code at or below line 8","verified":false},
-    {"id":259,"line":6,"message":"conditions, hit counts and log messages are not supported","verified":false},
+    {"id":259,"line":6,"verified":true},
     {"id":260,"line":7,"verified":true}]}
 setBreakpoints {"source":{"path":"other.asm"},"breakpoints":[{"line":5}]}
   3 "setBreakpoints" true {"breakpoints":[
     {"id":513,"line":5,"message":"the program is count.asm","verified":false}]}
-setFunctionBreakpoints {"breakpoints":[{"name":"second"},{"name":"START"},{"name":"FIRST","hitCondition":"2"}]}
+setFunctionBreakpoints {"breakpoints":[{"name":"second"},{"name":"START"},
+    {"name":"FIRST","hitCondition":"2"}]}
   4 "setFunctionBreakpoints" true {"breakpoints":[
     {"id":1,"line":5,"verified":true},
     {"id":2,"message":"the program has no such label","verified":false},
-    {"id":3,"line":3,"message":"conditions, hit counts and log messages are not supported","verified":false}]}
+    {"id":3,"line":3,"message":"hit counts and log messages are not supported","verified":false}]}
 breakpointLocations {"source":{"path":"count.asm"},"line":0,"endLine":6}
   5 "breakpointLocations" true {"breakpoints":[{"line":3},{"line":4},{"line":5},{"line":6}]}
 breakpointLocations {"source":{"path":"other.asm"},"line":3}
@@ -40,12 +42,14 @@ restart < loop
   7 "restart" true {}
   "breakpoint" {"breakpoint":{"id":257,"line":2,"message":"moved from line 1","verified":true},
     "reason":"changed"}
+  "breakpoint" {"breakpoint":{"id":259,"line":6,"message":"no code at or below line 6",
+    "verified":false},"reason":"changed"}
   "breakpoint" {"breakpoint":{"id":260,"line":7,"message":"no code at or below line 7",
     "verified":false},"reason":"changed"}
   "breakpoint" {"breakpoint":{"id":1,"message":"the program has no such label","verified":false},
     "reason":"changed"}
   "breakpoint" {"breakpoint":{"id":3,
-    "message":"conditions, hit counts and log messages are not supported","verified":false},
+    "message":"hit counts and log messages are not supported","verified":false},
     "reason":"changed"}
 configurationDone
   8 "configurationDone" true {}
@@ -53,8 +57,91 @@ slice
   "stopped" {"allThreadsStopped":true,"reason":"breakpoint","threadId":1}
 "#;
 
+/// Breakpoints with conditions: faults in them, those that are true at last, and a `next` over one that is
+/// false.
+const CONDITIONS: &str = r#"
+initialize
+  0 "initialize" true {"exceptionBreakpointFilters":[{"default":true,"filter":"undefined",
+    "label":"Undefined opcodes"},{"default":false,"filter":"halt","label":"HLT"}],
+    "supportsBreakpointLocationsRequest":true,"supportsConditionalBreakpoints":true,
+    "supportsConfigurationDoneRequest":true,"supportsDisassembleRequest":true,
+    "supportsEvaluateForHovers":true,"supportsExceptionInfoRequest":true,
+    "supportsFunctionBreakpoints":true,"supportsGotoTargetsRequest":true,
+    "supportsLoadedSourcesRequest":true,"supportsReadMemoryRequest":true,
+    "supportsRestartRequest":true,"supportsSetVariable":true,"supportsStepBack":true,
+    "supportsSteppingGranularity":true,"supportsTerminateRequest":true,"supportsWriteMemoryRequest":true}
+launch {"program":"count.asm","stopOnEntry":true} < counts
+  1 "launch" true {}
+  "initialized"
+setBreakpoints {"source":{"path":"count.asm"},"breakpoints":[{"line":5,"condition":"B == 1"},
+    {"line":6,"condition":"B EQ EQ"},{"line":6,"condition":"NOTHING"},
+    {"line":7,"condition":""}]}
+  2 "setBreakpoints" true {"breakpoints":[
+    {"id":257,"line":5,"verified":true},
+    {"id":258,"line":6,"message":"condition, column 6: Name","verified":false},
+    {"id":259,"line":6,"message":"condition: Undefined","verified":false},
+    {"id":260,"line":7,"verified":true}]}
+setFunctionBreakpoints {"breakpoints":[{"name":"SAY","condition":"[SP] <> 0"},
+    {"name":"SAY","condition":"B LT 2"}]}
+  3 "setFunctionBreakpoints" true {"breakpoints":[
+    {"id":1,"line":8,"message":"condition, column 7: Name","verified":false},
+    {"id":2,"line":8,"verified":true}]}
+configurationDone
+  4 "configurationDone" true {}
+  "stopped" {"allThreadsStopped":true,"reason":"entry","threadId":1}
+continue {"threadId":1}
+  5 "continue" true {"allThreadsContinued":true}
+  "continued" {"allThreadsContinued":true,"threadId":1}
+slice
+slice
+  "output" {"category":"stdout","output":"."}
+slice
+slice
+  "output" {"category":"stdout","output":"."}
+slice
+  "stopped" {"allThreadsStopped":true,"reason":"breakpoint","threadId":1}
+evaluate {"expression":"B","context":"hover"}
+  11 "evaluate" true {"result":"001H","variablesReference":0}
+continue {"threadId":1}
+  12 "continue" true {"allThreadsContinued":true}
+  "continued" {"allThreadsContinued":true,"threadId":1}
+slice
+  "output" {"category":"stdout","output":"."}
+  "stopped" {"allThreadsStopped":true,"reason":"breakpoint","threadId":1}
+setBreakpoints {"source":{"path":"count.asm"},"breakpoints":[{"line":9,"condition":"B > 3"}]}
+  14 "setBreakpoints" true {"breakpoints":[{"id":257,"line":9,"verified":true}]}
+setFunctionBreakpoints {"breakpoints":[]}
+  15 "setFunctionBreakpoints" true {"breakpoints":[]}
+restart < counts
+  16 "restart" true {}
+  "stopped" {"allThreadsStopped":true,"reason":"entry","threadId":1}
+next {"threadId":1}
+  17 "next" true {}
+  "continued" {"allThreadsContinued":true,"threadId":1}
+slice
+  "stopped" {"allThreadsStopped":true,"reason":"step","threadId":1}
+next {"threadId":1}
+  19 "next" true {}
+  "continued" {"allThreadsContinued":true,"threadId":1}
+slice
+  "stopped" {"allThreadsStopped":true,"reason":"step","threadId":1}
+next {"threadId":1}
+  21 "next" true {}
+  "continued" {"allThreadsContinued":true,"threadId":1}
+slice
+slice
+  "output" {"category":"stdout","output":"."}
+  "stopped" {"allThreadsStopped":true,"reason":"step","threadId":1}
+"#;
+
 #[test]
 fn breakpoints_are_placed(rt: HostRuntime) -> Result<(), Fail> {
     assert_eq!(rt; first_other(rt.alloc(), POINTS)?, None);
+    Ok(())
+}
+
+#[test]
+fn conditions_are_asked(rt: HostRuntime) -> Result<(), Fail> {
+    assert_eq!(rt; first_other(rt.alloc(), CONDITIONS)?, None);
     Ok(())
 }

@@ -4,11 +4,11 @@
 
 use base_text::sequence::Sequence;
 use base_text::text::Text;
-use dap_editor::json::message_json;
-use dap_editor::message::Message;
 use dap_editor::reading::read_editor_request;
 use dap_editor::request::EditorRequest;
 use dap_launch::file::FileText;
+use dap_messages::json::message_json;
+use dap_messages::message::Message;
 use dap_session::session::Session;
 use serde_json::Value;
 use std::alloc::{AllocError, Global};
@@ -72,11 +72,27 @@ MAIN:  JMP NOWHERE
        END MAIN
 ";
 
+/// Counts B down from 3, and writes a `.` by its subroutine at each count. SAY stands in line 8.
+const COUNTS: &str = "\
+       ORG 100H
+MAIN:  LXI SP,200H
+       MVI B,3
+NEXT:  CALL SAY
+       DCR B
+       JNZ NEXT
+       HLT
+SAY:   MVI A,2EH
+       OUT 1
+       RET
+       END MAIN
+";
+
 fn program(name: &str) -> Option<&'static str> {
     match name {
         "letters" => Some(LETTERS),
         "loop" => Some(LOOP),
         "calls" => Some(CALLS),
+        "counts" => Some(COUNTS),
         "undefined" => Some(UNDEFINED),
         "echo" => Some(ECHO),
         "slip" => Some(SLIP),

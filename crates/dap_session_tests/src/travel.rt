@@ -7,7 +7,7 @@ const FILTERS: &str = r#"
 initialize
   0 "initialize" true {"exceptionBreakpointFilters":[{"default":true,"filter":"undefined",
     "label":"Undefined opcodes"},{"default":false,"filter":"halt","label":"HLT"}],
-    "supportsBreakpointLocationsRequest":true,
+    "supportsBreakpointLocationsRequest":true,"supportsConditionalBreakpoints":true,
     "supportsConfigurationDoneRequest":true,"supportsDisassembleRequest":true,
     "supportsEvaluateForHovers":true,"supportsExceptionInfoRequest":true,
     "supportsFunctionBreakpoints":true,"supportsGotoTargetsRequest":true,
@@ -61,7 +61,7 @@ const UNFILTERED: &str = r#"
 initialize
   0 "initialize" true {"exceptionBreakpointFilters":[{"default":true,"filter":"undefined",
     "label":"Undefined opcodes"},{"default":false,"filter":"halt","label":"HLT"}],
-    "supportsBreakpointLocationsRequest":true,
+    "supportsBreakpointLocationsRequest":true,"supportsConditionalBreakpoints":true,
     "supportsConfigurationDoneRequest":true,"supportsDisassembleRequest":true,
     "supportsEvaluateForHovers":true,"supportsExceptionInfoRequest":true,
     "supportsFunctionBreakpoints":true,"supportsGotoTargetsRequest":true,
@@ -88,7 +88,7 @@ const TARGETS: &str = r#"
 initialize
   0 "initialize" true {"exceptionBreakpointFilters":[{"default":true,"filter":"undefined",
     "label":"Undefined opcodes"},{"default":false,"filter":"halt","label":"HLT"}],
-    "supportsBreakpointLocationsRequest":true,
+    "supportsBreakpointLocationsRequest":true,"supportsConditionalBreakpoints":true,
     "supportsConfigurationDoneRequest":true,"supportsDisassembleRequest":true,
     "supportsEvaluateForHovers":true,"supportsExceptionInfoRequest":true,
     "supportsFunctionBreakpoints":true,"supportsGotoTargetsRequest":true,
@@ -143,7 +143,7 @@ const INPUT: &str = r#"
 initialize
   0 "initialize" true {"exceptionBreakpointFilters":[{"default":true,"filter":"undefined",
     "label":"Undefined opcodes"},{"default":false,"filter":"halt","label":"HLT"}],
-    "supportsBreakpointLocationsRequest":true,
+    "supportsBreakpointLocationsRequest":true,"supportsConditionalBreakpoints":true,
     "supportsConfigurationDoneRequest":true,"supportsDisassembleRequest":true,
     "supportsEvaluateForHovers":true,"supportsExceptionInfoRequest":true,
     "supportsFunctionBreakpoints":true,"supportsGotoTargetsRequest":true,

@@ -1,8 +1,9 @@
 //! Breakpoints.
-ghost use Rattle.std.specs.Prelude.{◌≡◌, ◌≤◌, length, true, IfOk, OnOk, OnErr, option_map};
+ghost use Rattle.std.specs.Prelude.{◌≡◌, ◌≤◌, length, true, IfOk, OnErr, option_map, unwrap_or};
 ghost use Rattle.dap_session.specs.Breakpoints.{program_at, lines_armed, labels_armed, locating};
-ghost use Rattle.dap_session.specs.Breakpoints.{lines_set, setting_lines, setting_functions};
-ghost use Rattle.dap_session.specs.States.{SessionState, with_board, with_points};
+ghost use Rattle.dap_session.specs.Breakpoints.{lines_conditional, labels_conditional, lines_set};
+ghost use Rattle.dap_session.specs.Breakpoints.{setting_lines, setting_functions};
+ghost use Rattle.dap_session.specs.States.{SessionState, with_board, with_points, with_conditional};
 ghost use Rattle.dap_points.specs.Points.{number_of, has_place, with_lines};
 ghost use Rattle.dap_launch.specs.Points.{points_where, labels_where};
 ghost use Rattle.dap_session.specs.Represents.{RepresentsSession, RepliesAs};
@@ -10,14 +11,15 @@ ghost use Rattle.dap_session.specs.Represents.{RepresentsSession, RepliesAs};
 use crate::session::Session;
 use base_text::sequence::Sequence;
 use base_text::text::Text;
-use dap_editor::message::{EditorBody, PlacedBreakpoint};
 use dap_editor::request::{FunctionBreakpoint, LineBreakpoint};
-use dap_launch::points::{copy_functions, labels_where, points_where};
+use dap_launch::points::{copy_functions, copy_lines, labels_where, points_where};
 use dap_launch::program::{Program, arm_with};
 use dap_launch::reply::{Reply, succeed};
+use dap_lines::code_lines::locations;
+use dap_messages::message::{EditorBody, PlacedBreakpoint};
 use dap_points::points::SourceLines;
-use dap_program::code_lines::locations;
 use dap_program::messages::FollowUp;
+use dap_slice::conditions::ConditionalBreakpoints;
 use std::alloc::{AllocError, Global};
 
 // The program, if it was launched with this path.
@@ -30,11 +32,15 @@ pub(super) fn program_at<'a>(path: &str, program: &'a Option<Program>) -> Option
     }
 }
 
-fn copy_source(path: &Text, lines: &Sequence<LineBreakpoint>) -> Result<SourceLines, AllocError>
+fn copy_source(
+    alloc: Global,
+    path: &Text,
+    lines: &Sequence<LineBreakpoint>,
+) -> Result<SourceLines, AllocError>
     ensures { IfOk result (λ copy. copy ≡ record { path = path.now; lines = lines.now }) }
 {
     let path = path.clone()?;
-    let lines = lines.clone()?;
+    let lines = copy_lines(alloc, lines.as_slice())?;
     Ok(SourceLines { path, lines })
 }
 
@@ -51,7 +57,7 @@ impl Session {
         if !self.settings.points.has_place(path.as_str()) {
             return self.refuse_with(alloc, "too many sources have breakpoints");
         }
-        let source = copy_source(path, lines)?;
+        let source = copy_source(alloc, path, lines)?;
         self.place_lines(alloc, source)
     }
 
@@ -60,8 +66,9 @@ impl Session {
         ensures { RepliesAs (lines_set source) self.old result self.new }
     {
         let points = self.line_points(alloc, &source)?;
-        self.arm_lines(alloc, &source)?;
+        let conditional = self.arm_lines(alloc, &source)?;
         self.keep_lines(source);
+        self.keep_conditional(conditional);
         Ok(succeed(EditorBody::Breakpoints(points), FollowUp::Nothing))
     }
 
@@ -78,24 +85,43 @@ impl Session {
         points_where(alloc, &self.settings.program, &self.lab, number, source)
     }
 
-    // Makes the board stop at these lines, if the program is this source.
-    fn arm_lines(&mut self, alloc: Global, source: &SourceLines) -> Result<(), AllocError>
-        ensures ok { (s : SessionState) → RepresentsSession self.old s
-            → OnOk result (RepresentsSession self.new (lines_armed source.now s)) }
+    // Makes the board stop at these lines, if the program is this source, and returns those breakpoints that
+    // have conditions.
+    fn arm_lines(
+        &mut self,
+        alloc: Global,
+        source: &SourceLines,
+    ) -> Result<Option<ConditionalBreakpoints>, AllocError>
+        ensures ok { (s : SessionState) → RepresentsSession self.old s → IfOk result (λ points.
+            (unwrap_or points s.settings.conditional ≡ lines_conditional source.now s)
+            × RepresentsSession self.new (lines_armed source.now s)) }
         ensures rest { self.new ≡ record self.old { lab = self.new.lab } }
         ensures err { OnErr result (self.new ≡ self.old) }
     {
         let path = source.path.as_str();
         match program_at(path, &self.settings.program) {
-            None => Ok(()),
-            Some(program) => arm_with(
-                alloc,
-                &mut self.lab,
-                program,
-                self.settings.points.number_of(path),
-                source.used(),
-                self.settings.points.functions(),
-            ),
+            None => Ok(None),
+            Some(program) => {
+                let points = arm_with(
+                    alloc,
+                    &mut self.lab,
+                    program,
+                    self.settings.points.number_of(path),
+                    source.used(),
+                    self.settings.points.functions(),
+                )?;
+                Ok(Some(points))
+            }
+        }
+    }
+
+    // Takes these breakpoints in place of those with conditions, if there are some.
+    fn keep_conditional(&mut self, points: Option<ConditionalBreakpoints>)
+        ensures { (s : SessionState) → RepresentsSession self.old s → RepresentsSession self.new
+            (with_conditional (unwrap_or points s.settings.conditional) s) }
+    {
+        if let Some(points) = points {
+            self.settings.conditional = points;
         }
     }
 
@@ -117,11 +143,20 @@ impl Session {
         requires { length functions.now ≤ 256 }
         ensures { RepliesAs (setting_functions functions.now) self.old result self.new }
     {
-        let kept = copy_functions(alloc, functions.as_slice())?;
-        let points = self.label_points(alloc, functions.as_slice())?;
-        self.arm_labels(alloc, functions.as_slice())?;
-        self.settings.points.set_functions(kept);
+        let labels = functions.as_slice();
+        let kept = copy_functions(alloc, labels)?;
+        let points = self.label_points(alloc, labels)?;
+        let conditional = self.arm_labels(alloc, labels)?;
+        self.keep_functions(kept);
+        self.keep_conditional(conditional);
         Ok(succeed(EditorBody::Breakpoints(points), FollowUp::Nothing))
+    }
+
+    fn keep_functions(&mut self, functions: Sequence<FunctionBreakpoint>)
+        ensures { (s : SessionState) → RepresentsSession self.old s → RepresentsSession self.new
+            (with_points (record s.settings.points { functions = functions }) s) }
+    {
+        self.settings.points.set_functions(functions);
     }
 
     fn label_points(
@@ -143,33 +178,36 @@ impl Session {
         )
     }
 
-    // Makes the program's board stop at these labels.
+    // Makes the program's board stop at these labels, and returns those breakpoints that have conditions.
     fn arm_labels(
         &mut self,
         alloc: Global,
         functions: &[FunctionBreakpoint],
-    ) -> Result<(), AllocError>
+    ) -> Result<Option<ConditionalBreakpoints>, AllocError>
         requires { length functions.now ≤ 256 }
-        ensures ok { (s : SessionState) → RepresentsSession self.old s → OnOk result
-            (RepresentsSession self.new (with_board
+        ensures ok { (s : SessionState) → RepresentsSession self.old s → IfOk result (λ points.
+            (unwrap_or points s.settings.conditional
+            ≡ labels_conditional s.settings.program functions.now s)
+            × RepresentsSession self.new (with_board
             (labels_armed s.settings.program functions.now s.settings.points s.board) s)) }
         ensures rest { self.new ≡ record self.old { lab = self.new.lab } }
         ensures err { OnErr result (self.new ≡ self.old) }
     {
         match &self.settings.program {
-            None => Ok(()),
+            None => Ok(None),
             Some(program) => {
                 let path = program.launch.program.as_str();
                 let points = &self.settings.points;
                 let number = points.number_of(path);
-                arm_with(
+                let conditional = arm_with(
                     alloc,
                     &mut self.lab,
                     program,
                     number,
                     points.lines_at(path),
                     functions,
-                )
+                )?;
+                Ok(Some(conditional))
             }
         }
     }

@@ -6,13 +6,12 @@ ghost use Rattle.dap_program.specs.Boards.{RepresentsSomeBoard};
 ghost use Rattle.dap_session.specs.Launches.{beginning_where, started_follow, installing, loading, launching};
 ghost use Rattle.dap_session.specs.Launches.{restarting};
 ghost use Rattle.dap_session.specs.Slices.{told_by, told_in};
-ghost use Rattle.dap_session.specs.States.{SessionState, with_board, with_program};
+ghost use Rattle.dap_session.specs.States.{SessionState, with_board, with_program, with_conditional};
 ghost use Rattle.dap_session.specs.Represents.{RepresentsSession, RepliesAs, Tells, TellsAs};
 
 use crate::session::Session;
 use base_text::sequence::Sequence;
 use base_text::text::Text;
-use dap_editor::message::Message;
 use dap_editor::request::Launch;
 use dap_launch::file::{FileText, text_in};
 use dap_launch::opening::{Opening, begun_follow};
@@ -21,10 +20,12 @@ use dap_launch::program::{
     LoadedProgram, Phase, Program, arm_program, begin_if, begin_program, copy_launch,
 };
 use dap_launch::reply::{Reply, accept};
+use dap_messages::message::Message;
 use dap_program::failure::failure;
 use dap_program::load::{LoadFault, Loaded, load};
 use dap_program::messages::{FollowUp, RequestId};
 use dap_program::opening::{LoadReason, opening_messages};
+use dap_slice::conditions::ConditionalBreakpoints;
 use std::alloc::{AllocError, Global};
 
 impl Session {
@@ -149,15 +150,17 @@ impl Session {
         opening_messages(alloc, caller, cause, changed, follow)
     }
 
-    // Puts a loaded program in the place of what was on the board.
-    fn put(&mut self, loaded: LoadedProgram)
+    // Puts a loaded program in the place of what was on the board. These of its breakpoints have conditions.
+    fn put(&mut self, loaded: LoadedProgram, points: ConditionalBreakpoints)
         requires { RepresentsSomeBoard loaded.lab }
         ensures { (s : SessionState) (b : Board) → RepresentsSession self.old s → RepresentsBoard loaded.lab b
-            → RepresentsSession self.new (with_board b (with_program (Some loaded.program) s)) }
+            → RepresentsSession self.new (with_board b
+            (with_conditional points (with_program (Some loaded.program) s))) }
     {
         let LoadedProgram { program, lab } = loaded;
         self.lab = lab;
         self.settings.program = Some(program);
+        self.settings.conditional = points;
     }
 
     // Puts a loaded program in the place of what was on the board, after it began if the configuration is
@@ -176,14 +179,14 @@ impl Session {
         ensures err { OnErr result (self.new ≡ self.old) }
     {
         let messages = self.opening_messages(alloc, opening, &loaded)?;
-        arm_program(
+        let points = arm_program(
             alloc,
             &mut loaded.lab,
             &loaded.program,
             &self.settings.points,
         )?;
         begin_if(alloc, &mut loaded, self.settings.is_configured)?;
-        self.put(loaded);
+        self.put(loaded, points);
         Ok(messages)
     }
 }

@@ -6,8 +6,8 @@ ghost use Rattle.dap_session.specs.Represents.{RepresentsSession, TellsAs, Wants
 
 use crate::session::{RunSlice, Session};
 use base_text::sequence::Sequence;
-use dap_editor::message::Message;
 use dap_launch::life::{held_ends, note_end};
+use dap_messages::message::Message;
 use dap_program::slice::{Slice, make_slice};
 use lab_core::answer::SliceOutcome;
 use lab_core::run_slice::STEPS;
@@ -36,8 +36,17 @@ impl Session {
             → IfOk result (λ slice. SlicesWithin limit s slice self.new) }
         ensures err { OnErr result (self.new ≡ self.old) }
     {
-        let held = held_ends(self.settings.filters, &self.settings.program);
-        let slice = make_slice(alloc, &mut self.lab, limit, held, self.settings.has_asked)?;
+        let settings = &mut self.settings;
+        let held = held_ends(settings.filters, &settings.program);
+        let points = &mut settings.conditional;
+        let slice = make_slice(
+            alloc,
+            &mut self.lab,
+            points,
+            limit,
+            held,
+            settings.has_asked,
+        )?;
         let Slice {
             messages,
             executed,

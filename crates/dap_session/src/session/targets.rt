@@ -9,13 +9,13 @@ ghost use Rattle.dap_session.specs.Represents.{RepresentsSession, Replies, Repli
 use crate::session::Session;
 use crate::session::breakpoints::program_at;
 use base_text::text::Text;
-use dap_editor::message::{EditorBody, EditorStop, GotoTarget};
 use dap_launch::life::release_program;
 use dap_launch::reply::{Reply, accept, succeed};
+use dap_lines::target::first_target;
+use dap_messages::message::{EditorBody, EditorStop, GotoTarget};
 use dap_program::change::set_pc;
 use dap_program::messages::FollowUp;
 use dap_program::refusals::board_refusal;
-use dap_program::target::first_target;
 use lab_core::fault::EventFault;
 use std::alloc::{AllocError, Global};
 

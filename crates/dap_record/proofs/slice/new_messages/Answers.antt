@@ -1,6 +1,6 @@
 use Rattle.std.proofs.Common.{not, rules}
 use Rattle.std.proofs.lemmas.Fn.{filter_same}
-use Rattle.dap_editor.specs.declared.message.Message.{Message}
+use Rattle.dap_messages.specs.declared.message.Message.{Message}
 use Rattle.dap_record.specs.Slices.{is_output}
 use Rattle.dap_record.proofs.slice.new_messages.Goals as goal
 

@@ -1,8 +1,12 @@
-use Rattle.std.proofs.Common.{◌∙◌, List, ap, rules}
-use Rattle.dap_editor.specs.declared.message.EditorBody.TheVariants.{Breakpoints}
-use Rattle.dap_editor.specs.declared.message.EditorOutcome.TheVariants.{Success}
-use Rattle.dap_editor.specs.declared.message.PlacedBreakpoint.{PlacedBreakpoint}
+use Rattle.std.proofs.Common.{◌∙◌, List, ap, subst, rules}
+use Rattle.dap_messages.specs.declared.message.EditorBody.TheVariants.{Breakpoints}
+use Rattle.dap_messages.specs.declared.message.EditorOutcome.TheVariants.{Success}
+use Rattle.dap_messages.specs.declared.message.PlacedBreakpoint.{PlacedBreakpoint}
 use Rattle.dap_launch.specs.declared.reply.Reply.{Reply}
+use Rattle.dap_points.specs.Points.{with_lines}
+use Rattle.dap_session.specs.States.{with_points, with_conditional}
+use Rattle.dap_session.specs.Breakpoints.{lines_armed}
+use Rattle.dap_session.specs.Represents.{RepresentsSession}
 use Rattle.dap_session.proofs.session.Session.place_lines.Goals as goal
 
 pub returns : goal.returns
@@ -13,7 +17,13 @@ returns c = (
         ∙ ap (λ (found : List PlacedBreakpoint). Success (Breakpoints found))
         (c.in_ok-points.ensures s represents);
     follow = ap (λ (r : Reply). r.follow) c.succeed.ensures;
-    represents = c.keep_lines.ensures _ (c.in_ok-arm_lines.ensures.ok s represents);
+    represents =
+        let armed = c.in_ok-conditional.ensures.ok s represents in
+        let l = c.args.source in
+        subst (λ points. RepresentsSession c.keep_conditional.new.self
+        (with_points (with_lines l.path l.lines s.settings.points)
+        (with_conditional points (lines_armed l s)))) armed.0
+        (c.keep_conditional.ensures _ (c.keep_lines.ensures _ armed.1));
   },
   search rules,
 )

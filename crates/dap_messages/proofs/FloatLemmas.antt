@@ -1,0 +1,82 @@
+-- No number in a message is a float.
+use Rattle.std.proofs.Common.{◌≡◌, ℕ, ◌==◌, if◌then◌else◌, Bool, true, false, Option, Some, None}
+use Rattle.std.proofs.Common.{List, [], ◌∷◌, ◌++◌, codes, refl}
+use Rattle.serde_json.specs.Data.{Data, boolean, string}
+use Rattle.serde_json.specs.Written.{has_float}
+use Rattle.dap_answers.specs.Json.{object_of, whole_number, reference, line_json}
+use Rattle.dap_answers.specs.declared.answer.Event.TheVariants as board
+use Rattle.dap_answers.proofs.FloatLemmas.{no_float_in, body_has_no_float, event_has_no_float}
+use Rattle.dap_messages.specs.declared.message.BreakpointNote.{BreakpointNote}
+use Rattle.dap_messages.specs.declared.message.PlacedBreakpoint.{PlacedBreakpoint}
+use Rattle.dap_messages.specs.declared.message.EditorBody.{EditorBody}
+use Rattle.dap_messages.specs.declared.message.EditorBody.TheVariants as body
+use Rattle.dap_messages.specs.declared.message.EditorOutcome.{EditorOutcome}
+use Rattle.dap_messages.specs.declared.message.EditorOutcome.TheVariants.{Success, Refused}
+use Rattle.dap_messages.specs.declared.message.EditorStop.{EditorStop}
+use Rattle.dap_messages.specs.declared.message.EditorStop.TheVariants as stop
+use Rattle.dap_messages.specs.declared.message.OutputCategory.{OutputCategory}
+use Rattle.dap_messages.specs.declared.message.SourcePlace.{SourcePlace}
+use Rattle.dap_messages.specs.declared.message.EditorEvent.{EditorEvent}
+use Rattle.dap_messages.specs.declared.message.EditorEvent.TheVariants as event
+use Rattle.dap_messages.specs.declared.message.Message.{Message}
+use Rattle.dap_messages.specs.declared.message.Message.TheVariants.{Response, Event}
+use Rattle.dap_messages.specs.Json.{line_members, note_members, placed_json, source_json, data_members}
+use Rattle.dap_messages.specs.Json.{editor_body_json, outcome_json, stopped_json, output_json}
+use Rattle.dap_messages.specs.Json.{editor_event_json, message_json}
+
+placed_by : (id : ℕ) (line : Option ℕ) (note : Option BreakpointNote) (is_verified : Bool)
+    → has_float (object_of ((codes "id", whole_number id) ∷ line_members line ++ (note_members note ++
+    (codes "verified", boolean is_verified) ∷ []))) ≡ false
+placed_by id None None is_verified = refl
+placed_by id None (Some note) is_verified = refl
+placed_by id (Some line) None is_verified = refl
+placed_by id (Some line) (Some note) is_verified = refl
+
+placed : (b : PlacedBreakpoint) → has_float (placed_json b) ≡ false
+placed b = placed_by b.id b.line b.note b.is_verified
+
+counted : (a : Data) (bytes : List ℕ) (none : Bool) (count : ℕ) → has_float a ≡ false
+    → has_float (object_of ((codes "address", a) ∷ data_members bytes ++
+    (if none then [] else (codes "unreadableBytes", whole_number count) ∷ []))) ≡ false
+counted a [] true count is = rw is refl
+counted a [] false count is = rw is refl
+counted a (byte ∷ bytes) true count is = rw is refl
+counted a (byte ∷ bytes) false count is = rw is refl
+
+in_body : (b : EditorBody) → has_float (editor_body_json b) ≡ false
+in_body (body.Board b) = body_has_no_float b
+in_body (body.Breakpoints bs) = rw (no_float_in placed_json placed bs) refl
+in_body (body.Locations lines) = rw (no_float_in line_json (λ line. refl) lines) refl
+in_body (body.Memory address bytes count) =
+    counted (string (reference address)) bytes (count == 0) count refl
+in_body (body.Sources paths) = rw (no_float_in source_json (λ path. refl) paths) refl
+in_body (body.Targets None) = refl
+in_body (body.Targets (Some target)) = refl
+in_body _ = refl
+
+in_outcome : (seq request_seq : ℕ) (command : List ℕ) (o : EditorOutcome)
+    → has_float (outcome_json seq request_seq command o) ≡ false
+in_outcome seq request_seq command (Success b) = rw (in_body b) refl
+in_outcome seq request_seq command (Refused message) = refl
+
+stopped : (seq : ℕ) (s : EditorStop) → has_float (stopped_json seq s) ≡ false
+stopped seq stop.Entry = refl
+stopped seq stop.Goto = refl
+stopped seq stop.Halted = refl
+stopped seq (stop.Exception u) = refl
+stopped seq (stop.Board reason) = event_has_no_float seq (board.Stopped reason)
+
+in_output : (category : OutputCategory) (bytes : List ℕ) (place : Option SourcePlace)
+    → has_float (output_json category bytes place) ≡ false
+in_output category bytes None = refl
+in_output category bytes (Some place) = refl
+
+in_event : (seq : ℕ) (e : EditorEvent) → has_float (editor_event_json seq e) ≡ false
+in_event seq (event.Stopped s) = stopped seq s
+in_event seq (event.Output category bytes place) = rw (in_output category bytes place) refl
+in_event seq (event.Breakpoint b) = rw (placed b) refl
+in_event seq _ = refl
+
+pub message_has_no_float : (seq : ℕ) (m : Message) → has_float (message_json seq m) ≡ false
+message_has_no_float seq (Response r) = in_outcome seq r.request_seq r.command r.outcome
+message_has_no_float seq (Event e) = in_event seq e

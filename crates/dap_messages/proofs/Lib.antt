@@ -1,0 +1,3 @@
+pub mod FloatLemmas
+pub mod DepthLemmas
+pub mod PathLemmas

@@ -1,0 +1,295 @@
+-- The JSON of messages to an editor (Debug Adapter Protocol, "Base Protocol", "Events", "Requests",
+-- "Types"), beside what dap_answers has. The members of an object stand in the order of their keys' bytes.
+use Rattle.std.specs.Prelude.{
+  ℕ,
+  ◌==◌,
+  if◌then◌else◌,
+  true,
+  false,
+  Bool,
+  List,
+  [],
+  ◌∷◌,
+  ◌++◌,
+  Option,
+  Some,
+  None,
+  option_map,
+  option_to_list,
+  unwrap_or,
+  codes,
+  decimal,
+}
+use Rattle.std.specs.Path.{slash, rsplit_once}
+use Rattle.base_text.specs.Bytes.{Bytes, Text}
+use Rattle.base_text.specs.Hexadecimal.{upper_byte, upper_word}
+use Rattle.base_text.specs.Latin.{latin_text}
+use Rattle.base64.specs.Engines.{standard}
+use Rattle.base64.specs.GeneralPurpose.{encode_of}
+use Rattle.serde_json.specs.Data.{Data, array, boolean, string}
+use Rattle.serde_json.specs.View.{items_of}
+use Rattle.dap_answers.specs.declared.answer.Event.TheVariants as board
+use Rattle.dap_answers.specs.Json.{object_of, whole_number, list_of, one_list, reference, line_json}
+use Rattle.dap_answers.specs.Json.{body_json}
+use Rattle.dap_answers.specs.Json.{bare_response, refusal_json, bare_event, event_with_body, event_json}
+use Rattle.dap_messages.specs.declared.message.BreakpointNote.{BreakpointNote}
+use Rattle.dap_messages.specs.declared.message.BreakpointNote.TheVariants as note
+use Rattle.dap_messages.specs.declared.message.PlacedBreakpoint.{PlacedBreakpoint}
+use Rattle.dap_messages.specs.declared.message.UndefinedOpcode.{UndefinedOpcode}
+use Rattle.dap_messages.specs.declared.message.GotoTarget.{GotoTarget}
+use Rattle.dap_messages.specs.declared.message.EditorBody.{EditorBody}
+use Rattle.dap_messages.specs.declared.message.EditorBody.TheVariants as body
+use Rattle.dap_messages.specs.declared.message.EditorOutcome.{EditorOutcome}
+use Rattle.dap_messages.specs.declared.message.EditorOutcome.TheVariants.{Success, Refused}
+use Rattle.dap_messages.specs.declared.message.EditorResponse.{EditorResponse}
+use Rattle.dap_messages.specs.declared.message.EditorStop.{EditorStop}
+use Rattle.dap_messages.specs.declared.message.EditorStop.TheVariants as stop
+use Rattle.dap_messages.specs.declared.message.OutputCategory.{OutputCategory}
+use Rattle.dap_messages.specs.declared.message.OutputCategory.TheVariants as category
+use Rattle.dap_messages.specs.declared.message.SourcePlace.{SourcePlace}
+use Rattle.dap_messages.specs.declared.message.EditorEvent.{EditorEvent}
+use Rattle.dap_messages.specs.declared.message.EditorEvent.TheVariants as event
+use Rattle.dap_messages.specs.declared.message.Message.{Message}
+use Rattle.dap_messages.specs.declared.message.Message.TheVariants.{Response, Event}
+
+-- ---- parts of bodies
+
+-- the breakpoint's line is absent if it isn't known
+abbrev pub line_members : Option ℕ → List (Text × Data)
+line_members None = []
+line_members (Some line) = (codes "line", whole_number line) ∷ []
+
+abbrev pub note_text : BreakpointNote → Text
+note_text (note.Moved from) = codes "moved from line " ++ decimal from
+note_text (note.NoCode line) = codes "no code at or below line " ++ decimal line
+note_text note.NotLaunched = codes "nothing is launched yet"
+note_text (note.OtherProgram path) = codes "the program is " ++ path
+note_text (note.Condition why) = why
+note_text note.NotSupported = codes "hit counts and log messages are not supported"
+note_text note.NoLabel = codes "the program has no such label"
+note_text note.TooMany = codes "more than 256 breakpoints"
+
+abbrev pub note_members : Option BreakpointNote → List (Text × Data)
+note_members None = []
+note_members (Some n) = (codes "message", string (note_text n)) ∷ []
+
+abbrev pub placed_json : PlacedBreakpoint → Data
+placed_json b = object_of (
+    (codes "id", whole_number b.id) ∷ line_members b.line ++ (note_members b.note ++
+    (codes "verified", boolean b.is_verified) ∷ []))
+
+-- the part of a path after its last `/`, or all of it
+abbrev pub last_part : Text → Text
+last_part path = unwrap_or (option_map (λ parts. parts.1) (rsplit_once slash path)) path
+
+abbrev pub source_json : Text → Data
+source_json path = object_of (
+    (codes "name", string (last_part path)) ∷
+    (codes "path", string path) ∷ [])
+
+-- in base64 (RFC 4648, section 4: the standard alphabet, padded)
+unfoldable pub base64_text : Bytes → Text
+base64_text bytes = encode_of standard bytes
+
+-- the data is absent if there are no bytes
+abbrev pub data_members : Bytes → List (Text × Data)
+data_members [] = []
+data_members (byte ∷ bytes) = (codes "data", string (base64_text (byte ∷ bytes))) ∷ []
+
+-- the count of unreadable bytes, if it isn't 0
+abbrev pub unreadable_members : ℕ → List (Text × Data)
+unreadable_members count =
+    if count == 0 then [] else (codes "unreadableBytes", whole_number count) ∷ []
+
+abbrev pub filter_json : Text → Text → Bool → Data
+filter_json name label is_default = object_of (
+    (codes "default", boolean is_default) ∷
+    (codes "filter", string name) ∷
+    (codes "label", string label) ∷ [])
+
+-- an editor shows its address
+abbrev pub target_json : GotoTarget → Data
+target_json t = object_of (
+    (codes "id", whole_number t.address) ∷
+    (codes "instructionPointerReference", string (reference t.address)) ∷
+    (codes "label", string (upper_word t.address)) ∷
+    (codes "line", whole_number t.line) ∷ [])
+
+-- ---- bodies
+
+abbrev pub can : Text → Text × Data
+can key = (key, boolean true)
+
+abbrev pub undefined_filter : Data
+undefined_filter = filter_json (codes "undefined") (codes "Undefined opcodes") true
+
+abbrev pub halt_filter : Data
+halt_filter = filter_json (codes "halt") (codes "HLT") false
+
+abbrev pub filters_json : Data
+filters_json = array (items_of (undefined_filter ∷ halt_filter ∷ []))
+
+abbrev pub capabilities_json : Data
+capabilities_json = object_of (
+    (codes "exceptionBreakpointFilters", filters_json) ∷
+    can (codes "supportsBreakpointLocationsRequest") ∷
+    can (codes "supportsConditionalBreakpoints") ∷
+    can (codes "supportsConfigurationDoneRequest") ∷
+    can (codes "supportsDisassembleRequest") ∷
+    can (codes "supportsEvaluateForHovers") ∷
+    can (codes "supportsExceptionInfoRequest") ∷
+    can (codes "supportsFunctionBreakpoints") ∷
+    can (codes "supportsGotoTargetsRequest") ∷
+    can (codes "supportsLoadedSourcesRequest") ∷
+    can (codes "supportsReadMemoryRequest") ∷
+    can (codes "supportsRestartRequest") ∷
+    can (codes "supportsSetVariable") ∷
+    can (codes "supportsStepBack") ∷
+    can (codes "supportsSteppingGranularity") ∷
+    can (codes "supportsTerminateRequest") ∷
+    can (codes "supportsWriteMemoryRequest") ∷ [])
+
+-- how an exception is named, with the opcode and its address
+abbrev pub exception_text : UndefinedOpcode → Text
+exception_text u = codes "UndefinedOpcode: " ++ (upper_byte u.opcode ++ (codes " at " ++ upper_word u.pc))
+
+abbrev pub exception_json : UndefinedOpcode → Data
+exception_json u = object_of (
+    (codes "breakMode", string (codes "unhandled")) ∷
+    (codes "description", string (exception_text u)) ∷
+    (codes "exceptionId", string (codes "UndefinedOpcode")) ∷ [])
+
+abbrev pub evaluation_json : Text → Data
+evaluation_json text = object_of (
+    (codes "result", string text) ∷
+    (codes "variablesReference", whole_number 0) ∷ [])
+
+abbrev pub memory_json : ℕ → Bytes → ℕ → Data
+memory_json address bytes unreadable = object_of (
+    (codes "address", string (reference address)) ∷
+    data_members bytes ++ unreadable_members unreadable)
+
+abbrev pub written_json : ℕ → Data
+written_json count = object_of ((codes "bytesWritten", whole_number count) ∷ [])
+
+abbrev pub editor_body_json : EditorBody → Data
+editor_body_json (body.Board b) = body_json b
+editor_body_json body.Capabilities = capabilities_json
+editor_body_json (body.Breakpoints bs) = one_list (codes "breakpoints") placed_json bs
+editor_body_json (body.Locations lines) = one_list (codes "breakpoints") line_json lines
+editor_body_json (body.Exception u) = exception_json u
+editor_body_json (body.Evaluation text) = evaluation_json text
+editor_body_json (body.Memory address bytes unreadable) = memory_json address bytes unreadable
+editor_body_json (body.Written count) = written_json count
+editor_body_json (body.Sources paths) = one_list (codes "sources") source_json paths
+editor_body_json (body.Targets target) = one_list (codes "targets") target_json (option_to_list target)
+
+-- ---- responses
+
+abbrev pub success_json : ℕ → ℕ → Text → Data → Data
+success_json seq request_seq command b = object_of (
+    (codes "body", b) ∷
+    (codes "command", string command) ∷ bare_response seq request_seq true)
+
+-- a success has a body and no message, a refusal a message and no body
+abbrev pub outcome_json : ℕ → ℕ → Text → EditorOutcome → Data
+outcome_json seq request_seq command (Success b) =
+    success_json seq request_seq command (editor_body_json b)
+outcome_json seq request_seq command (Refused message) =
+    refusal_json seq request_seq command message
+
+abbrev pub response_json : ℕ → EditorResponse → Data
+response_json seq r = outcome_json seq r.request_seq r.command r.outcome
+
+-- ---- events
+
+-- a stop of which there is no more to say than why
+abbrev pub bare_stop_json : Text → Data
+bare_stop_json reason = object_of (
+    (codes "allThreadsStopped", boolean true) ∷
+    (codes "reason", string reason) ∷
+    (codes "threadId", whole_number 1) ∷ [])
+
+abbrev pub halted_json : Data
+halted_json = object_of (
+    (codes "allThreadsStopped", boolean true) ∷
+    (codes "description", string (codes "halted")) ∷
+    (codes "reason", string (codes "step")) ∷
+    (codes "threadId", whole_number 1) ∷ [])
+
+abbrev pub stopped_at_json : UndefinedOpcode → Data
+stopped_at_json u = object_of (
+    (codes "allThreadsStopped", boolean true) ∷
+    (codes "reason", string (codes "exception")) ∷
+    (codes "text", string (exception_text u)) ∷
+    (codes "threadId", whole_number 1) ∷ [])
+
+abbrev pub stopped_json : ℕ → EditorStop → Data
+stopped_json seq stop.Entry = event_with_body seq (codes "stopped") (bare_stop_json (codes "entry"))
+stopped_json seq stop.Goto = event_with_body seq (codes "stopped") (bare_stop_json (codes "goto"))
+stopped_json seq stop.Halted = event_with_body seq (codes "stopped") halted_json
+stopped_json seq (stop.Exception u) = event_with_body seq (codes "stopped") (stopped_at_json u)
+stopped_json seq (stop.Board reason) = event_json seq (board.Stopped reason)
+
+abbrev pub category_text : OutputCategory → Text
+category_text category.Console = codes "console"
+category_text category.Stdout = codes "stdout"
+category_text category.Stderr = codes "stderr"
+
+abbrev pub bare_output : OutputCategory → Bytes → List (Text × Data)
+bare_output category bytes =
+    (codes "category", string (category_text category)) ∷
+    (codes "output", string (latin_text bytes)) ∷ []
+
+abbrev pub placed_output : OutputCategory → Bytes → SourcePlace → Data
+placed_output category bytes place = object_of (
+    (codes "category", string (category_text category)) ∷
+    (codes "column", whole_number place.column) ∷
+    (codes "line", whole_number place.line) ∷
+    (codes "output", string (latin_text bytes)) ∷
+    (codes "source", source_json place.path) ∷ [])
+
+-- output that belongs to no place has none
+abbrev pub output_json : OutputCategory → Bytes → Option SourcePlace → Data
+output_json category bytes None = object_of (bare_output category bytes)
+output_json category bytes (Some place) = placed_output category bytes place
+
+abbrev pub changed_json : PlacedBreakpoint → Data
+changed_json b = object_of (
+    (codes "breakpoint", placed_json b) ∷
+    (codes "reason", string (codes "changed")) ∷ [])
+
+abbrev pub invalidated_json : Data
+invalidated_json = object_of (
+    (codes "areas", list_of string (codes "stacks" ∷ codes "variables" ∷ [])) ∷ [])
+
+-- all of it
+abbrev pub memory_changed_json : Data
+memory_changed_json = object_of (
+    (codes "count", whole_number 65536) ∷
+    (codes "memoryReference", string (reference 0)) ∷
+    (codes "offset", whole_number 0) ∷ [])
+
+abbrev pub exited_json : ℕ → Data
+exited_json code = object_of ((codes "exitCode", whole_number code) ∷ [])
+
+abbrev pub editor_event_json : ℕ → EditorEvent → Data
+editor_event_json seq event.Initialized = event_json seq board.Initialized
+editor_event_json seq (event.Stopped reason) = stopped_json seq reason
+editor_event_json seq event.Continued = event_json seq board.Continued
+editor_event_json seq (event.Output category bytes place) =
+    event_with_body seq (codes "output") (output_json category bytes place)
+editor_event_json seq (event.Breakpoint b) =
+    event_with_body seq (codes "breakpoint") (changed_json b)
+editor_event_json seq event.Invalidated =
+    event_with_body seq (codes "invalidated") invalidated_json
+editor_event_json seq event.Memory = event_with_body seq (codes "memory") memory_changed_json
+editor_event_json seq (event.Exited code) =
+    event_with_body seq (codes "exited") (exited_json code)
+editor_event_json seq event.Terminated = object_of (bare_event seq (codes "terminated"))
+
+-- ---- messages
+
+abbrev pub message_json : ℕ → Message → Data
+message_json seq (Response r) = response_json seq r
+message_json seq (Event e) = editor_event_json seq e

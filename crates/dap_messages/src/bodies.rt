@@ -1,0 +1,294 @@
+//! The JSON of bodies.
+ghost use Rattle.std.specs.Prelude.{◌≡◌, ◌∷◌, ◌++◌, [], IfOk, codes, option_to_list};
+ghost use Rattle.serde_json.specs.Data.{string, boolean};
+ghost use Rattle.serde_json.specs.View.{view};
+ghost use Rattle.dap_answers.specs.Object.{HasMembers};
+ghost use Rattle.dap_answers.specs.Json.{members_from, list_of, one_list, reference, line_json};
+ghost use Rattle.dap_answers.specs.Json.{whole_number};
+ghost use Rattle.dap_messages.specs.Json.{note_text, line_members, placed_json, last_part, source_json};
+ghost use Rattle.dap_messages.specs.Json.{base64_text};
+ghost use Rattle.dap_messages.specs.Json.{data_members, filter_json, filters_json, capabilities_json};
+ghost use Rattle.dap_messages.specs.Json.{target_json, evaluation_json};
+ghost use Rattle.dap_messages.specs.Json.{exception_text, exception_json};
+ghost use Rattle.dap_messages.specs.Json.{memory_json, written_json, editor_body_json};
+
+use crate::message::{BreakpointNote, EditorBody, GotoTarget, PlacedBreakpoint, UndefinedOpcode};
+use base_text::hexadecimal::{push_byte, push_word};
+use base_text::text::Text;
+use base64::engine::general_purpose::STANDARD;
+use dap_answers::bodies::body_json;
+use dap_answers::json::{ToJson, array_of, reference};
+use dap_answers::object::Object;
+use serde_json::Value;
+use std::alloc::{AllocError, Global};
+
+fn filter(alloc: Global, name: &str, label: &str, is_default: bool) -> Result<Value, AllocError>
+    ensures { IfOk result (λ v. view v ≡ filter_json name.now label.now is_default) }
+{
+    Object::new(alloc)
+        .flag("default", is_default)
+        .text("filter", name)
+        .text("label", label)
+        .finish()
+}
+
+fn filters(alloc: Global) -> Result<Value, AllocError>
+    ensures { IfOk result (λ v. view v ≡ filters_json) }
+{
+    let undefined = filter(alloc, "undefined", "Undefined opcodes", true)?;
+    let halt = filter(alloc, "halt", "HLT", false)?;
+    let mut filters = Vec::new(alloc);
+    filters.push(undefined)?;
+    filters.push(halt)?;
+    Ok(Value::from(filters))
+}
+
+fn capabilities(alloc: Global) -> Result<Value, AllocError>
+    ensures { IfOk result (λ v. view v ≡ capabilities_json) }
+{
+    let filters = filters(alloc)?;
+    Object::new(alloc)
+        .value("exceptionBreakpointFilters", filters)
+        .flag("supportsBreakpointLocationsRequest", true)
+        .flag("supportsConditionalBreakpoints", true)
+        .flag("supportsConfigurationDoneRequest", true)
+        .flag("supportsDisassembleRequest", true)
+        .flag("supportsEvaluateForHovers", true)
+        .flag("supportsExceptionInfoRequest", true)
+        .flag("supportsFunctionBreakpoints", true)
+        .flag("supportsGotoTargetsRequest", true)
+        .flag("supportsLoadedSourcesRequest", true)
+        .flag("supportsReadMemoryRequest", true)
+        .flag("supportsRestartRequest", true)
+        .flag("supportsSetVariable", true)
+        .flag("supportsStepBack", true)
+        .flag("supportsSteppingGranularity", true)
+        .flag("supportsTerminateRequest", true)
+        .flag("supportsWriteMemoryRequest", true)
+        .finish()
+}
+
+fn note_text(alloc: Global, note: &BreakpointNote) -> Result<Text, AllocError>
+    ensures { IfOk result (λ text. text ≡ note_text note.now) }
+{
+    let mut text = String::new(alloc);
+    match note {
+        BreakpointNote::Moved { from } => write!(text, "moved from line {from}")?,
+        BreakpointNote::NoCode { line } => write!(text, "no code at or below line {line}")?,
+        BreakpointNote::NotLaunched => text.push_str("nothing is launched yet")?,
+        BreakpointNote::OtherProgram(path) => {
+            text.push_str("the program is ")?;
+            text.push_str(path.as_str())?;
+        }
+        BreakpointNote::Condition(why) => text.push_str(why.as_str())?,
+        BreakpointNote::NotSupported => {
+            text.push_str("hit counts and log messages are not supported")?;
+        }
+        BreakpointNote::NoLabel => text.push_str("the program has no such label")?,
+        BreakpointNote::TooMany => text.push_str("more than 256 breakpoints")?,
+    }
+    Ok(Text::from(text))
+}
+
+// The members of a breakpoint, without its note.
+fn bare_breakpoint(alloc: Global, breakpoint: &PlacedBreakpoint) -> Object
+    ensures { HasMembers result (members_from ((codes "id", whole_number breakpoint.now.id) ∷
+        line_members breakpoint.now.line ++ (codes "verified", boolean breakpoint.now.is_verified) ∷ [])) }
+{
+    let bare = Object::new(alloc)
+        .number("id", u64::from(breakpoint.id))
+        .flag("verified", breakpoint.is_verified);
+    match breakpoint.line {
+        None => bare,
+        Some(line) => bare.number("line", u64::from(line)),
+    }
+}
+
+impl ToJson for PlacedBreakpoint {
+    ghost json = { placed_json };
+
+    fn to_json(&self, alloc: Global) -> Result<Value, AllocError> {
+        let bare = bare_breakpoint(alloc, self);
+        match &self.note {
+            None => bare.finish(),
+            Some(note) => {
+                let text = note_text(alloc, note)?;
+                bare.text("message", text.as_str()).finish()
+            }
+        }
+    }
+}
+
+fn breakpoints(alloc: Global, list: &[PlacedBreakpoint]) -> Result<Value, AllocError>
+    ensures { IfOk result (λ v. view v ≡ one_list (codes "breakpoints") placed_json list.now) }
+{
+    let list = array_of(alloc, list)?;
+    Object::new(alloc).value("breakpoints", list).finish()
+}
+
+fn locations(alloc: Global, lines: &[u32]) -> Result<Value, AllocError>
+    ensures { IfOk result (λ v. view v ≡ one_list (codes "breakpoints") line_json lines.now) }
+{
+    let lines = array_of(alloc, lines)?;
+    Object::new(alloc).value("breakpoints", lines).finish()
+}
+
+// The part of a path after its last `/`.
+fn last_part(path: &str) -> &str
+    ensures { result.now ≡ last_part path.now }
+{
+    match path.rsplit_once('/') {
+        Some((_, name)) => name,
+        None => path,
+    }
+}
+
+/// The JSON of a source.
+pub fn source(alloc: Global, path: &str) -> Result<Value, AllocError>
+    ensures { IfOk result (λ v. view v ≡ source_json path.now) }
+{
+    Object::new(alloc)
+        .text("name", last_part(path))
+        .text("path", path)
+        .finish()
+}
+
+fn every_source(alloc: Global, paths: &[Text]) -> Result<Value, AllocError>
+    ensures { IfOk result (λ v. view v ≡ list_of source_json paths.now) }
+{
+    let mut values = Vec::new(alloc);
+    for path in paths {
+        values.push(source(alloc, path.as_str())?)?;
+    }
+    Ok(Value::from(values))
+}
+
+fn sources(alloc: Global, paths: &[Text]) -> Result<Value, AllocError>
+    ensures { IfOk result (λ v. view v ≡ one_list (codes "sources") source_json paths.now) }
+{
+    let values = every_source(alloc, paths)?;
+    Object::new(alloc).value("sources", values).finish()
+}
+
+/// How an exception is named, with the opcode and its address.
+pub fn exception_text(alloc: Global, undefined: UndefinedOpcode) -> Result<Text, AllocError>
+    ensures { IfOk result (λ text. text ≡ exception_text undefined) }
+{
+    let mut text = String::new(alloc);
+    text.push_str("UndefinedOpcode: ")?;
+    push_byte(&mut text, undefined.opcode)?;
+    text.push_str(" at ")?;
+    push_word(&mut text, undefined.pc)?;
+    Ok(Text::from(text))
+}
+
+fn exception(alloc: Global, undefined: UndefinedOpcode) -> Result<Value, AllocError>
+    ensures { IfOk result (λ v. view v ≡ exception_json undefined) }
+{
+    let description = exception_text(alloc, undefined)?;
+    Object::new(alloc)
+        .text("exceptionId", "UndefinedOpcode")
+        .text("description", description.as_str())
+        .text("breakMode", "unhandled")
+        .finish()
+}
+
+fn evaluation(alloc: Global, text: &str) -> Result<Value, AllocError>
+    ensures { IfOk result (λ v. view v ≡ evaluation_json text.now) }
+{
+    Object::new(alloc)
+        .text("result", text)
+        .number("variablesReference", 0)
+        .finish()
+}
+
+#[tactic(auto, unfolding(crate::specs::Json::base64_text))]
+fn base64_text(alloc: Global, bytes: &[u8]) -> Result<Value, AllocError>
+    ensures { IfOk result (λ v. view v ≡ string (base64_text bytes.now)) }
+{
+    Ok(Value::from(STANDARD.encode(alloc, bytes)?))
+}
+
+// The members of a body of memory, without the count of unreadable bytes.
+fn read_bytes(alloc: Global, address: u16, bytes: &[u8]) -> Result<Object, AllocError>
+    ensures { IfOk result (λ o. HasMembers o (members_from
+        ((codes "address", string (reference address)) ∷ data_members bytes.now))) }
+{
+    let address = reference(alloc, address)?;
+    let bare = Object::new(alloc).value("address", address);
+    if bytes.is_empty() {
+        return Ok(bare);
+    }
+    let text = base64_text(alloc, bytes)?;
+    Ok(bare.value("data", text))
+}
+
+fn memory(alloc: Global, address: u16, bytes: &[u8], unreadable: u32) -> Result<Value, AllocError>
+    ensures { IfOk result (λ v. view v ≡ memory_json address bytes.now unreadable) }
+{
+    let read = read_bytes(alloc, address, bytes)?;
+    if unreadable == 0 {
+        return read.finish();
+    }
+    read.number("unreadableBytes", u64::from(unreadable))
+        .finish()
+}
+
+fn written(alloc: Global, count: u32) -> Result<Value, AllocError>
+    ensures { IfOk result (λ v. view v ≡ written_json count) }
+{
+    Object::new(alloc)
+        .number("bytesWritten", u64::from(count))
+        .finish()
+}
+
+impl ToJson for GotoTarget {
+    ghost json = { target_json };
+
+    fn to_json(&self, alloc: Global) -> Result<Value, AllocError> {
+        let mut label = String::new(alloc);
+        push_word(&mut label, self.address)?;
+        let reference = reference(alloc, self.address)?;
+        Object::new(alloc)
+            .number("id", u64::from(self.address))
+            .value("instructionPointerReference", reference)
+            .text("label", label.as_str())
+            .number("line", u64::from(self.line))
+            .finish()
+    }
+}
+
+fn targets(alloc: Global, target: Option<GotoTarget>) -> Result<Value, AllocError>
+    ensures { IfOk result (λ v. view v
+        ≡ one_list (codes "targets") target_json (option_to_list target)) }
+{
+    let mut targets = Vec::new(alloc);
+    if let Some(target) = target {
+        targets.push(target.to_json(alloc)?)?;
+    }
+    Object::new(alloc)
+        .value("targets", Value::from(targets))
+        .finish()
+}
+
+/// The JSON of a body.
+pub fn editor_body_json(alloc: Global, body: &EditorBody) -> Result<Value, AllocError>
+    ensures { IfOk result (λ v. view v ≡ editor_body_json body.now) }
+{
+    match body {
+        EditorBody::Board(body) => body_json(alloc, body),
+        EditorBody::Capabilities => capabilities(alloc),
+        EditorBody::Breakpoints(list) => breakpoints(alloc, list.as_slice()),
+        EditorBody::Locations(lines) => locations(alloc, lines.as_slice()),
+        EditorBody::Exception(undefined) => exception(alloc, *undefined),
+        EditorBody::Evaluation(text) => evaluation(alloc, text.as_str()),
+        EditorBody::Memory {
+            address,
+            bytes,
+            unreadable,
+        } => memory(alloc, *address, bytes.as_slice(), *unreadable),
+        EditorBody::Written(count) => written(alloc, *count),
+        EditorBody::Sources(paths) => sources(alloc, paths.as_slice()),
+        EditorBody::Targets(target) => targets(alloc, *target),
+    }
+}

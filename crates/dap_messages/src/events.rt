@@ -1,0 +1,211 @@
+//! The JSON of events.
+ghost use Rattle.std.specs.Prelude.{◌≡◌, IfOk, [], ◌∷◌, codes};
+ghost use Rattle.serde_json.specs.Data.{string};
+ghost use Rattle.serde_json.specs.View.{view};
+ghost use Rattle.dap_answers.specs.Json.{object_of, list_of};
+ghost use Rattle.dap_answers.specs.Object.{HasMembers};
+ghost use Rattle.dap_answers.specs.Json.{members_from};
+ghost use Rattle.dap_messages.specs.Json.{bare_stop_json, halted_json, stopped_at_json, stopped_json};
+ghost use Rattle.dap_messages.specs.Json.{bare_output, placed_output};
+ghost use Rattle.dap_messages.specs.Json.{invalidated_json, memory_changed_json};
+ghost use Rattle.dap_messages.specs.Json.{output_json, changed_json, exited_json, editor_event_json};
+
+use crate::bodies::{exception_text, source};
+use crate::message::{
+    EditorEvent, EditorStop, OutputCategory, PlacedBreakpoint, SourcePlace, UndefinedOpcode,
+};
+use base_text::latin;
+use dap_answers::answer::Event;
+use dap_answers::json::{ToJson, reference};
+use dap_answers::object::Object;
+use dap_answers::sending::{bare_event, event, event_with_body};
+use serde_json::Value;
+use std::alloc::{AllocError, Global};
+
+impl OutputCategory {
+    ghost use Rattle.dap_messages.specs.Json.{category_text};
+
+    /// The text of `category` in `output`.
+    pub fn as_str(self) -> &'static str
+        ensures { result.now ≡ category_text self }
+    {
+        match self {
+            OutputCategory::Console => "console",
+            OutputCategory::Stdout => "stdout",
+            OutputCategory::Stderr => "stderr",
+        }
+    }
+}
+
+fn bare_stop(alloc: Global, reason: &str) -> Result<Value, AllocError>
+    ensures { IfOk result (λ v. view v ≡ bare_stop_json reason.now) }
+{
+    Object::new(alloc)
+        .text("reason", reason)
+        .number("threadId", 1)
+        .flag("allThreadsStopped", true)
+        .finish()
+}
+
+fn halted_body(alloc: Global) -> Result<Value, AllocError>
+    ensures { IfOk result (λ v. view v ≡ halted_json) }
+{
+    Object::new(alloc)
+        .text("reason", "step")
+        .text("description", "halted")
+        .number("threadId", 1)
+        .flag("allThreadsStopped", true)
+        .finish()
+}
+
+fn stopped_at_body(alloc: Global, undefined: UndefinedOpcode) -> Result<Value, AllocError>
+    ensures { IfOk result (λ v. view v ≡ stopped_at_json undefined) }
+{
+    let text = exception_text(alloc, undefined)?;
+    Object::new(alloc)
+        .text("reason", "exception")
+        .text("text", text.as_str())
+        .number("threadId", 1)
+        .flag("allThreadsStopped", true)
+        .finish()
+}
+
+fn stopped(alloc: Global, seq: u64, reason: EditorStop) -> Result<Value, AllocError>
+    ensures { IfOk result (λ v. view v ≡ stopped_json seq reason) }
+{
+    match reason {
+        EditorStop::Entry => event_with_body(alloc, seq, "stopped", bare_stop(alloc, "entry")?),
+        EditorStop::Goto => event_with_body(alloc, seq, "stopped", bare_stop(alloc, "goto")?),
+        EditorStop::Halted => event_with_body(alloc, seq, "stopped", halted_body(alloc)?),
+        EditorStop::Exception(undefined) => {
+            event_with_body(alloc, seq, "stopped", stopped_at_body(alloc, undefined)?)
+        }
+        EditorStop::Board(reason) => event(alloc, seq, Event::Stopped(reason)),
+    }
+}
+
+// The members of every output, with a place or without one.
+fn bare_output(alloc: Global, category: OutputCategory, bytes: &[u8]) -> Result<Object, AllocError>
+    ensures { IfOk result (λ o. HasMembers o (members_from (bare_output category bytes.now))) }
+{
+    let text = Value::from(latin::to_text(alloc, bytes)?);
+    Ok(
+        Object::new(alloc)
+            .text("category", category.as_str())
+            .value("output", text),
+    )
+}
+
+fn placed_output(
+    alloc: Global,
+    category: OutputCategory,
+    bytes: &[u8],
+    place: &SourcePlace,
+) -> Result<Value, AllocError>
+    ensures { IfOk result (λ v. view v ≡ placed_output category bytes.now place.now) }
+{
+    let source = source(alloc, place.path.as_str())?;
+    bare_output(alloc, category, bytes)?
+        .value("source", source)
+        .number("line", u64::from(place.line))
+        .number("column", u64::from(place.column))
+        .finish()
+}
+
+fn output(
+    alloc: Global,
+    category: OutputCategory,
+    bytes: &[u8],
+    place: &Option<SourcePlace>,
+) -> Result<Value, AllocError>
+    ensures { IfOk result (λ v. view v ≡ output_json category bytes.now place.now) }
+{
+    match place {
+        None => bare_output(alloc, category, bytes)?.finish(),
+        Some(place) => placed_output(alloc, category, bytes, place),
+    }
+}
+
+fn changed(alloc: Global, breakpoint: &PlacedBreakpoint) -> Result<Value, AllocError>
+    ensures { IfOk result (λ v. view v ≡ changed_json breakpoint.now) }
+{
+    let breakpoint = breakpoint.to_json(alloc)?;
+    Object::new(alloc)
+        .value("breakpoint", breakpoint)
+        .text("reason", "changed")
+        .finish()
+}
+
+fn areas(alloc: Global) -> Result<Value, AllocError>
+    ensures { IfOk result (λ v. view v ≡ list_of string (codes "stacks" ∷ codes "variables" ∷ [])) }
+{
+    let stacks = String::from_str(alloc, "stacks")?;
+    let variables = String::from_str(alloc, "variables")?;
+    let mut areas = Vec::new(alloc);
+    areas.push(Value::from(stacks))?;
+    areas.push(Value::from(variables))?;
+    Ok(Value::from(areas))
+}
+
+fn invalidated(alloc: Global) -> Result<Value, AllocError>
+    ensures { IfOk result (λ v. view v ≡ invalidated_json) }
+{
+    let areas = areas(alloc)?;
+    Object::new(alloc).value("areas", areas).finish()
+}
+
+fn memory_changed(alloc: Global) -> Result<Value, AllocError>
+    ensures { IfOk result (λ v. view v ≡ memory_changed_json) }
+{
+    let reference = reference(alloc, 0)?;
+    Object::new(alloc)
+        .value("memoryReference", reference)
+        .number("offset", 0)
+        .number("count", 65_536)
+        .finish()
+}
+
+fn exited(alloc: Global, code: u8) -> Result<Value, AllocError>
+    ensures { IfOk result (λ v. view v ≡ exited_json code) }
+{
+    Object::new(alloc)
+        .number("exitCode", u64::from(code))
+        .finish()
+}
+
+/// The JSON of an event, with `seq` as its number.
+pub fn editor_event_json(
+    alloc: Global,
+    seq: u64,
+    message: &EditorEvent,
+) -> Result<Value, AllocError>
+    ensures { IfOk result (λ v. view v ≡ editor_event_json seq message.now) }
+{
+    match message {
+        EditorEvent::Initialized => event(alloc, seq, Event::Initialized),
+        EditorEvent::Stopped(reason) => stopped(alloc, seq, *reason),
+        EditorEvent::Continued => event(alloc, seq, Event::Continued),
+        EditorEvent::Output {
+            category,
+            bytes,
+            place,
+        } => {
+            let body = output(alloc, *category, bytes.as_slice(), place)?;
+            event_with_body(alloc, seq, "output", body)
+        }
+        EditorEvent::Breakpoint(breakpoint) => {
+            event_with_body(alloc, seq, "breakpoint", changed(alloc, breakpoint)?)
+        }
+        EditorEvent::Invalidated => {
+            event_with_body(alloc, seq, "invalidated", invalidated(alloc)?)
+        }
+        EditorEvent::Memory => event_with_body(alloc, seq, "memory", memory_changed(alloc)?),
+        EditorEvent::Exited { code } => event_with_body(
+            alloc,
+            seq,
+            "exited",
+            exited(alloc, *code)?,
+        ),
+        EditorEvent::Terminated => bare_event(alloc, seq, "terminated").finish(),
+    }
+}

@@ -1,0 +1,158 @@
+//! Messages to an editor.
+use base_text::sequence::{Bytes, Sequence};
+use base_text::text::Text;
+use dap_answers::answer::{Body, StopReason};
+
+/// Why a breakpoint isn't verified, or isn't on the line that was asked for.
+#[derive(Clone, Drop)]
+pub enum BreakpointNote {
+    /// The line that was asked for has no code.
+    Moved { from: u32 },
+    /// Neither the line that was asked for nor one below it has code.
+    NoCode { line: u32 },
+    NotLaunched,
+    /// The program is the file with this path.
+    OtherProgram(Text),
+    /// What is wrong with its condition.
+    Condition(Text),
+    /// It has a hit count or a log message.
+    NotSupported,
+    NoLabel,
+    TooMany,
+}
+
+/// A breakpoint as a response shows it. An event that changes it refers to its number.
+#[derive(Clone, Drop)]
+pub struct PlacedBreakpoint {
+    pub id: u32,
+    /// `None` for a label that doesn't exist.
+    pub line: Option<u32>,
+    /// Its condition, which the response doesn't repeat.
+    pub condition: Option<Text>,
+    pub is_verified: bool,
+    /// A message for the user.
+    pub note: Option<BreakpointNote>,
+}
+
+/// An opcode that is undefined on the board, and its address.
+#[derive(Clone, Copy)]
+pub struct UndefinedOpcode {
+    pub opcode: u8,
+    pub pc: u16,
+}
+
+/// A line of the program to which PC can be set.
+#[derive(Clone, Copy)]
+pub struct GotoTarget {
+    /// Where its first statement begins; this is also its number.
+    pub address: u16,
+    pub line: u32,
+}
+
+/// The body of a successful response.
+#[derive(Drop)]
+pub enum EditorBody {
+    /// Of a command that the kernel has too.
+    Board(Body),
+    /// Of `initialize`: what this debugger supports.
+    Capabilities,
+    /// Of `setBreakpoints` and `setFunctionBreakpoints`.
+    Breakpoints(Sequence<PlacedBreakpoint>),
+    /// Of `breakpointLocations`: their lines.
+    Locations(Sequence<u32>),
+    /// Of `exceptionInfo`.
+    Exception(UndefinedOpcode),
+    /// Of `evaluate`.
+    Evaluation(Text),
+    /// Of `readMemory`: the bytes from this address on, and how many of those requested don't exist.
+    Memory {
+        address: u16,
+        bytes: Bytes,
+        unreadable: u32,
+    },
+    /// Of `writeMemory`: the number of bytes.
+    Written(u32),
+    /// Of `loadedSources`: their paths.
+    Sources(Sequence<Text>),
+    /// Of `gotoTargets`: at most one.
+    Targets(Option<GotoTarget>),
+}
+
+/// The outcome of a request.
+#[derive(Drop)]
+pub enum EditorOutcome {
+    Success(EditorBody),
+    /// A message for the user.
+    Refused(Text),
+}
+
+/// An answer to the request with this number and command.
+#[derive(Drop)]
+pub struct EditorResponse {
+    pub request_seq: u32,
+    pub command: Text,
+    pub outcome: EditorOutcome,
+}
+
+/// Why the program stopped.
+#[derive(Clone, Copy)]
+pub enum EditorStop {
+    /// At its start, before its first step.
+    Entry,
+    /// At its end, after HLT.
+    Halted,
+    /// At its end, before an undefined opcode.
+    Exception(UndefinedOpcode),
+    /// Where PC was set.
+    Goto,
+    Board(StopReason),
+}
+
+/// The kind of an output.
+#[derive(Clone, Copy)]
+pub enum OutputCategory {
+    /// Of the debugger itself.
+    Console,
+    /// What the program writes to its console.
+    Stdout,
+    Stderr,
+}
+
+/// A place in a text, line and column from 1.
+#[derive(Drop)]
+pub struct SourcePlace {
+    pub path: Text,
+    pub line: u32,
+    pub column: u32,
+}
+
+/// An event that is sent to an editor (Debug Adapter Protocol, "Events").
+#[derive(Drop)]
+pub enum EditorEvent {
+    Initialized,
+    Stopped(EditorStop),
+    Continued,
+    /// Each byte is the character with that code point.
+    Output {
+        category: OutputCategory,
+        bytes: Bytes,
+        place: Option<SourcePlace>,
+    },
+    /// A breakpoint isn't what it was.
+    Breakpoint(PlacedBreakpoint),
+    /// What the editor shows of the stack and of variables may have changed.
+    Invalidated,
+    /// Memory may have changed.
+    Memory,
+    Exited {
+        code: u8,
+    },
+    Terminated,
+}
+
+/// A message to an editor.
+#[derive(Drop)]
+pub enum Message {
+    Response(EditorResponse),
+    Event(EditorEvent),
+}

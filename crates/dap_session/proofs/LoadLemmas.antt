@@ -1,0 +1,29 @@
+-- A program that was loaded is installed.
+use Rattle.std.proofs.Common.{ℕ, List, Result, Ok, Err, IfOk, subst}
+use Rattle.std.specs.declared.alloc.AllocError.{AllocError}
+use Rattle.lab_core.specs.Board.{Board}
+use Rattle.lab_core.specs.Labs.{RepresentsBoard}
+use Rattle.dap_messages.specs.declared.message.Message.{Message}
+use Rattle.dap_editor.specs.declared.request.Launch.{Launch as LaunchOf}
+use Rattle.dap_launch.specs.Programs.{program_of}
+use Rattle.dap_program.specs.declared.load.Loaded.{Loaded}
+use Rattle.dap_program.specs.declared.load.LoadFault.{LoadFault}
+use Rattle.dap_program.specs.declared.messages.RequestId.{RequestId}
+use Rattle.dap_program.specs.declared.opening.LoadReason.{LoadReason}
+use Rattle.dap_program.specs.Loading.{Loads}
+use Rattle.dap_session.specs.Launches.{installing, loading_as}
+use Rattle.dap_session.specs.Represents.{SessionFields, Tells}
+use Rattle.dap_session.specs.Slices.{told_in}
+use Rattle.dap_session.specs.States.{SessionState}
+
+pub loaded_told : (r : Result (Board × ℕ) LoadFault) (loaded : Loaded) (cause : LoadReason) (l : LaunchOf)
+    (caller : RequestId) (s : SessionState) (reply : Result (List Message) AllocError) (new : SessionFields)
+    → Loads r (Ok loaded)
+    → ((b : Board) → RepresentsBoard loaded.lab b
+    → IfOk reply (λ messages. Tells (told_in caller (installing cause (program_of l loaded.start) b s))
+    messages new))
+    → IfOk reply (λ messages. Tells (told_in caller (loading_as r cause l s)) messages new)
+loaded_told (Ok (b, start)) loaded cause l caller s reply new loads installs =
+    subst (λ n. IfOk reply (λ messages. Tells (told_in caller (installing cause (program_of l n) b s))
+    messages new)) loads.1 (installs b loads.0)
+loaded_told (Err fault) loaded cause l caller s reply new loads installs = absurd loads
