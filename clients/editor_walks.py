@@ -32,9 +32,10 @@ class Walk:
         self.begin_plain()
 
     def begin_plain(self):
-        breakpoints = self.plain.breakpoints if self.plain else set()
+        before = self.plain
         self.plain = PlainDebugger(self.program, [("type", self.typed.encode()), ("switch", self.switches)])
-        self.plain.breakpoints = breakpoints
+        if before:
+            self.plain.breakpoints, self.plain.conditions = before.breakpoints, before.conditions
         self.stops("entry")
         self.compare()
 
@@ -258,10 +259,32 @@ class Walk:
         everywhere = range(self.program.text.count("\n") + 2)
         inside = [self.program.lines[at] for at in sorted(self.program.firsts) if at < self.program.start]
         chosen = sorted({line for some in (everywhere, inside) for line in self.chance.sample(some, self.chance.randint(0, 3))})
+        asked = [(line, *self.condition()) for line in chosen]
         landings = [self.plain.landing(line) for line in chosen]
         shown = [(line, False) if landing is None else (landing, True) for line, landing in zip(chosen, landings)]
-        equal(self.editor.set_breakpoints(self.path, chosen), shown)
-        self.plain.breakpoints = set(landings) - {None}
+        given = [{"line": line} | ({"condition": text} if text else {}) for line, text, _ in asked]
+        answer = self.do("setBreakpoints", source={"path": self.path}, breakpoints=given)["breakpoints"]
+        equal([(it["line"], it["verified"]) for it in answer], shown)
+        self.plain.breakpoints, self.plain.conditions = set(), {}
+        for (_, text, holds), landing in zip(asked, landings):
+            if landing is None:
+                continue
+            if text:
+                self.plain.conditions.setdefault(landing, []).append(holds)
+            else:
+                self.plain.breakpoints.add(landing)
+
+    def condition(self):
+        """A condition's text and what it says of a board, or None twice."""
+        byte, address = self.chance.randrange(256), plain_programs.DATA + self.chance.randrange(8)
+        name, place = self.chance.choice([("B", 0), ("C", 1), ("D", 2), ("E", 3), ("A", 7)])
+        return self.chance.choice((
+            (None, None), (None, None),
+            (f"{name} > {byte}", lambda board: board.r[place] > byte),
+            (f"[0{address:X}H] LE {byte} && Z", lambda board: board.memory[address] <= byte and board.z),
+            (f"{name} AND 1", lambda board: board.r[place] & 1),
+            ("SP < 0", lambda board: False),
+            (f"{byte} / (A AND 0)", lambda board: True)))
 
     # ---- looks
 

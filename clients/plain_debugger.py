@@ -11,6 +11,8 @@ class PlainDebugger:
     def __init__(self, program, inputs):
         self.program, self.inputs = program, [(0, *what) for what in inputs]
         self.board, self.told, self.breakpoints = self.board_at(0), 0, set()
+        # Of each line with a breakpoint that has conditions those conditions, each by what it says of a board.
+        self.conditions = {}
         # The step that it makes, if it makes one, with the count and the live routines where it went on; how it is held at its end.
         self.pending, self.resumed, self.live, self.held = None, 0, (), None
 
@@ -34,6 +36,9 @@ class PlainDebugger:
 
     def is_at_breakpoint(self, board):
         return self.begins(board) and self.program.lines[board.pc] in self.breakpoints
+
+    def is_at_condition(self, board):
+        return self.begins(board) and any(it(board) for it in self.conditions.get(self.program.lines[board.pc], ()))
 
     # ---- forward
 
@@ -77,6 +82,8 @@ class PlainDebugger:
             return "breakpoint"
         if moved and self.pending and self.is_complete(board, *self.pending):
             return "step"
+        if moved and self.is_at_condition(board):
+            return "breakpoint"
         return None
 
     def is_complete(self, board, kind, granularity):

@@ -26,18 +26,67 @@ class Points(Session):
             editor.do("continue", threadId=1)
             self.assertEqual(editor.event()[0], "continued")
 
-    def test_with_a_condition_it_is_not_verified(self):
+    def test_with_a_hit_count_or_a_log_message_it_is_not_verified(self):
         editor, path = self.editor(), self.count()
         editor.launch(path)
-        given = [{"line": SHOW, "condition": "A == 1"}, {"line": 4, "condition": ""}, {"line": 5, "hitCondition": "2"},
+        given = [{"line": SHOW, "condition": 7}, {"line": 4, "condition": ""}, {"line": 5, "hitCondition": "2"},
                  {"line": 6, "logMessage": "x", "hitCondition": None}, {"line": 7, "condition": None}]
         shown = editor.do("setBreakpoints", source={"path": path}, breakpoints=given)["breakpoints"]
         self.assertEqual([it["verified"] for it in shown], [False, True, False, False, True])
-        reason = "conditions, hit counts and log messages are not supported"
+        reason = "hit counts and log messages are not supported"
         self.assertEqual([it.get("message") for it in shown], [reason, None, reason, reason, None])
-        given = [{"name": "SHOW", "condition": "1"}, {"name": "NEXT"}]
+        given = [{"name": "SHOW", "hitCondition": "1"}, {"name": "NEXT"}]
         shown = editor.do("setFunctionBreakpoints", breakpoints=given)["breakpoints"]
         self.assertEqual([(it["line"], it["verified"], it.get("message")) for it in shown], [(SHOW, False, reason), (4, True, None)])
+
+    def test_a_condition_that_cannot_be_read_leaves_its_own_breakpoint_unverified(self):
+        editor, path = self.editor(), self.count()
+        editor.launch(path)
+        conditions = {
+            "A == 1": None, "NEXT <= HL && !Z": None, "word[SP] != 0x0106": None, "[word[NEXT]] EQ 'A'": None, "1/B": None,
+            "A ==": "Operands", "(" * 65 + "1" + ")" * 65: "Nesting", "A" * 1025: "TooLong", "70000": "Number",
+            "[" * 17 + "1" + "]" * 17: "Nesting", "NOTHING": "Undefined", "[NOTHING] > 1": "Undefined", " ": "Operands"}
+        given = [{"line": 4, "condition": text} for text in conditions] + [{"line": 5, "condition": "A" * 10**6}]
+        shown = editor.do("setBreakpoints", source={"path": path}, breakpoints=given)["breakpoints"]
+        for (text, fault), breakpoint in zip([*conditions.items(), ("a million characters", "TooLong")], shown):
+            self.assertEqual(breakpoint["verified"], fault is None, (text[:20], breakpoint))
+            if fault:
+                self.assertRegex(breakpoint["message"], rf"^condition(, column \d+)?: {fault}$")
+
+    def test_with_a_condition_it_stops_where_that_is_true(self):
+        editor, path = self.editor(), self.count()
+        editor.launch(path)
+        given = [{"line": SHOW, "condition": "A == 1"}, {"line": 6, "condition": "B > 3"}]
+        editor.do("setBreakpoints", source={"path": path}, breakpoints=given)
+        editor.do("setFunctionBreakpoints", breakpoints=[{"name": "next", "condition": "B EQ 2"}])
+        editor.do("configurationDone")
+        self.assertEqual((editor.stop(), editor.place()), ("breakpoint", ("main", 4)))
+        self.assertEqual(editor.do("evaluate", expression="B", context="hover")["result"], "002H")
+        editor.do("next", threadId=1)
+        self.assertEqual((editor.stop(), editor.place()), ("step", ("main", 5)))
+        # A false condition inside doesn't end the step.
+        editor.do("next", threadId=1)
+        self.assertEqual((editor.stop(), editor.place()), ("step", ("main", 6)))
+        editor.do("continue", threadId=1)
+        self.assertEqual((editor.stop(), editor.place()[1]), ("breakpoint", SHOW))
+        editor.do("continue", threadId=1)
+        self.assertEqual(editor.event()[0], "continued")
+
+    def test_a_condition_without_a_value_stops(self):
+        editor, path = self.editor(), self.count()
+        editor.launch(path)
+        editor.do("setBreakpoints", source={"path": path}, breakpoints=[{"line": 7, "condition": "10 / (B - 1)"}])
+        editor.do("setBreakpoints", source={"path": path}, breakpoints=[{"line": 6, "condition": "0 / (B - 2)"}])
+        editor.do("configurationDone")
+        self.assertEqual((editor.stop(), editor.place()), ("breakpoint", ("main", 6)))
+        self.assertEqual(editor.do("evaluate", expression="B", context="hover")["result"], "002H")
+
+    def test_without_a_debugger_there_are_no_conditions(self):
+        editor, path = self.editor(), self.count()
+        editor.launch(path, noDebug=True)
+        editor.do("setBreakpoints", source={"path": path}, breakpoints=[{"line": 6, "condition": "1"}])
+        editor.do("configurationDone")
+        self.assertEqual(editor.output_to_end(), ("321", 0))
 
     def test_after_a_restart_those_that_are_not_what_they_were_are_told(self):
         editor, path = self.editor(), self.program("MAIN: NOP\n NOP\n HLT\n END MAIN\n", "again.asm")

@@ -72,8 +72,9 @@ START:  MVI A,'!'
 
 CAPABILITIES = {
     **dict.fromkeys((
-        "supportsBreakpointLocationsRequest", "supportsConfigurationDoneRequest", "supportsDisassembleRequest",
-        "supportsEvaluateForHovers", "supportsExceptionInfoRequest", "supportsFunctionBreakpoints", "supportsGotoTargetsRequest",
+        "supportsBreakpointLocationsRequest", "supportsConditionalBreakpoints", "supportsConfigurationDoneRequest",
+        "supportsDisassembleRequest", "supportsEvaluateForHovers", "supportsExceptionInfoRequest",
+        "supportsFunctionBreakpoints", "supportsGotoTargetsRequest",
         "supportsLoadedSourcesRequest", "supportsReadMemoryRequest", "supportsRestartRequest", "supportsSetVariable",
         "supportsStepBack", "supportsSteppingGranularity", "supportsTerminateRequest", "supportsWriteMemoryRequest"), True),
     "exceptionBreakpointFilters": [
@@ -93,7 +94,7 @@ CONVERSATION = (
     ('{"seq":1,"type":"request","command":"initialize","arguments":{"adapterID":"lab80"}}',
      '{"body":{"exceptionBreakpointFilters":[{"default":true,"filter":"undefined","label":"Undefined opcodes"},'
      '{"default":false,"filter":"halt","label":"HLT"}],"supportsBreakpointLocationsRequest":true,'
-     '"supportsConfigurationDoneRequest":true,'
+     '"supportsConditionalBreakpoints":true,"supportsConfigurationDoneRequest":true,'
      '"supportsDisassembleRequest":true,"supportsEvaluateForHovers":true,"supportsExceptionInfoRequest":true,'
      '"supportsFunctionBreakpoints":true,"supportsGotoTargetsRequest":true,"supportsLoadedSourcesRequest":true,'
      '"supportsReadMemoryRequest":true,"supportsRestartRequest":true,"supportsSetVariable":true,'
