@@ -81,6 +81,26 @@ class Points(Session):
         self.assertEqual((editor.stop(), editor.place()), ("breakpoint", ("main", 6)))
         self.assertEqual(editor.do("evaluate", expression="B", context="hover")["result"], "002H")
 
+    def test_a_condition_is_kept_for_a_launch_and_a_restart(self):
+        editor, path = self.editor(), self.count()
+        editor.initialize()
+        given = [{"line": SHOW, "condition": "A == 2"}]
+        [shown] = editor.do("setBreakpoints", source={"path": path}, breakpoints=given)["breakpoints"]
+        self.assertEqual((shown["verified"], shown["message"]), (False, "nothing is launched yet"))
+        editor.do("launch", program=path)
+        self.assertEqual(editor.event(), ("initialized", None))
+        self.changes(editor, {"id": shown["id"], "line": SHOW, "verified": True})
+        editor.do("configurationDone")
+        for _ in range(2):
+            self.assertEqual((editor.stop(), editor.place()), ("breakpoint", ("SHOW", SHOW)))
+            self.assertEqual(editor.evaluate("A"), "002H")
+            editor.do("restart")
+        self.assertEqual(editor.stop(), "breakpoint")
+        # Without its condition it is met at each count.
+        self.assertEqual(editor.set_breakpoints(path, [SHOW]), [(SHOW, True)])
+        editor.do("restart")
+        self.assertEqual((editor.stop(), editor.evaluate("A")), ("breakpoint", "003H"))
+
     def test_without_a_debugger_there_are_no_conditions(self):
         editor, path = self.editor(), self.count()
         editor.launch(path, noDebug=True)
