@@ -23,7 +23,7 @@ TABLE: DB 41H,56H,34H,12H
 ";
 
 // After five steps: A is 53H, HL and SP are 010DH, DE is FFFFH, PC is 010CH; P is set, and no other flag.
-fn put_program(alloc: Global, lab: &mut Lab) -> Result<bool, AllocError> {
+pub(crate) fn put_program(alloc: Global, lab: &mut Lab) -> Result<bool, AllocError> {
     let is_loaded = load_text(alloc, lab, "program", PROGRAM)?;
     let is_started = is_done(lab, &Event::Start(0x100));
     let is_stepped = is_done(lab, &Event::Slice(5));
