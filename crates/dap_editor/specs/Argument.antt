@@ -41,6 +41,7 @@ use Rattle.dap_editor.specs.declared.request.SignedOffset.TheVariants.{Forward, 
 use Rattle.dap_editor.specs.declared.request.ExceptionFilters.{ExceptionFilters}
 use Rattle.dap_editor.specs.declared.request.EvaluateContext.{EvaluateContext}
 use Rattle.dap_editor.specs.declared.request.EvaluateContext.TheVariants.{Repl, Watch, Other}
+use Rattle.dap_messages.specs.declared.message.BreakpointOptions.{BreakpointOptions}
 use Rattle.dap_editor.specs.declared.request.LineBreakpoint.{LineBreakpoint}
 use Rattle.dap_editor.specs.declared.request.FunctionBreakpoint.{FunctionBreakpoint}
 
@@ -125,25 +126,34 @@ abbrev pub some_text : Text → Option Text
 some_text [] = None
 some_text (character ∷ text) = Some (character ∷ text)
 
-abbrev pub condition_of : Data → Option Text
-condition_of d = option_and_then some_text (text_at (codes "condition") d)
+abbrev pub option_text : Text → Data → Option Text
+option_text key d = option_and_then some_text (text_at key d)
 
--- without a hit count and a log message, which aren't supported; a condition is a text
+abbrev pub options_of : Data → BreakpointOptions
+options_of d = record {
+  condition = option_text (codes "condition") d;
+  log_message = option_text (codes "logMessage") d;
+}
+
+abbrev pub is_text_or_unset : Text → Data → Bool
+is_text_or_unset key d = is_some (text_at key d) || is_unset (get key d)
+
+-- without a hit count, which isn't supported; the others are texts
 abbrev pub is_plain : Data → Bool
 is_plain d =
-    (is_some (text_at (codes "condition") d) || is_unset (get (codes "condition") d))
-    && (is_unset (get (codes "hitCondition") d) && is_unset (get (codes "logMessage") d))
+    is_text_or_unset (codes "condition") d
+    && (is_text_or_unset (codes "logMessage") d && is_unset (get (codes "hitCondition") d))
 
 -- on a line
 abbrev pub line_of : Data → Option LineBreakpoint
 line_of d =
-    option_map (λ n. record { line = n; condition = condition_of d; is_plain = is_plain d })
+    option_map (λ n. record { line = n; options = options_of d; is_plain = is_plain d })
     (option_and_then (whole_between 0 4294967295) (get (codes "line") d))
 
 -- at a label
 abbrev pub function_of : Data → Option FunctionBreakpoint
 function_of d =
-    option_map (λ text. record { name = text; condition = condition_of d; is_plain = is_plain d })
+    option_map (λ text. record { name = text; options = options_of d; is_plain = is_plain d })
     (text_at (codes "name") d)
 
 -- what each is, if each is one

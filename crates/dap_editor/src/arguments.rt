@@ -9,7 +9,8 @@ ghost use Rattle.dap_editor.specs.Answer.{Answers};
 ghost use Rattle.dap_editor.specs.Argument.{required_argument, optional, address, IsBackWithin};
 ghost use Rattle.dap_editor.specs.Argument.{shift_within, shift};
 ghost use Rattle.dap_editor.specs.Argument.{context, granularity, is_text, has_text, filters, no_filters};
-ghost use Rattle.dap_editor.specs.Argument.{is_unset, some_text, condition_of, is_plain, line_of};
+ghost use Rattle.dap_editor.specs.Argument.{is_unset, some_text, option_text, options_of, is_text_or_unset};
+ghost use Rattle.dap_editor.specs.Argument.{is_plain, line_of};
 ghost use Rattle.dap_editor.specs.Argument.{function_of, all_of};
 ghost use Rattle.dap_editor.specs.Argument.{breakpoints, lines, functions, bytes_of, base64};
 ghost use Rattle.dap_editor.specs.Table.{byte, word, any_number, offset, memory_reference};
@@ -21,6 +22,7 @@ use base_text::sequence::{Bytes, Sequence};
 use base_text::text::Text;
 use base64::DecodeAllocError;
 use base64::engine::general_purpose::STANDARD;
+use dap_messages::message::BreakpointOptions;
 use dap_talk::arguments::{self, ArgumentFault, address_of, argument_at, whole_between};
 use dap_talk::members;
 use lab_shown::step::Granularity;
@@ -237,21 +239,38 @@ fn some_text(alloc: Global, text: &str) -> Result<Option<Text>, AllocError>
     Ok(Some(Text::copy_of(alloc, text)?))
 }
 
-fn condition_of(alloc: Global, breakpoint: &Value) -> Result<Option<Text>, AllocError>
-    ensures { IfOk result (λ condition. condition ≡ condition_of (view breakpoint.now)) }
+fn option_text(alloc: Global, breakpoint: &Value, key: &str) -> Result<Option<Text>, AllocError>
+    ensures { IfOk result (λ text. text ≡ option_text key.now (view breakpoint.now)) }
 {
-    match members::text_at(breakpoint, "condition") {
+    match members::text_at(breakpoint, key) {
         None => Ok(None),
         Some(text) => some_text(alloc, text),
     }
 }
 
+fn options_of(alloc: Global, breakpoint: &Value) -> Result<BreakpointOptions, AllocError>
+    ensures { IfOk result (λ options. options ≡ options_of (view breakpoint.now)) }
+{
+    let condition = option_text(alloc, breakpoint, "condition")?;
+    let log_message = option_text(alloc, breakpoint, "logMessage")?;
+    Ok(BreakpointOptions {
+        condition,
+        log_message,
+    })
+}
+
+fn is_text_or_unset(breakpoint: &Value, key: &str) -> bool
+    ensures { result ≡ is_text_or_unset key.now (view breakpoint.now) }
+{
+    members::text_at(breakpoint, key).is_some() || is_unset(breakpoint, key)
+}
+
 fn is_plain(breakpoint: &Value) -> bool
     ensures { result ≡ is_plain (view breakpoint.now) }
 {
-    (members::text_at(breakpoint, "condition").is_some() || is_unset(breakpoint, "condition"))
+    is_text_or_unset(breakpoint, "condition")
+        && is_text_or_unset(breakpoint, "logMessage")
         && is_unset(breakpoint, "hitCondition")
-        && is_unset(breakpoint, "logMessage")
 }
 
 fn line_at(breakpoint: &Value) -> Option<u32>
@@ -265,10 +284,10 @@ fn line_of(alloc: Global, breakpoint: &Value) -> Result<LineBreakpoint, Argument
     ensures { Answers (line_of (view breakpoint.now)) result }
 {
     let line = line_at(breakpoint).ok_or(ArgumentFault::Arguments)?;
-    let condition = condition_of(alloc, breakpoint)?;
+    let options = options_of(alloc, breakpoint)?;
     Ok(LineBreakpoint {
         line,
-        condition,
+        options,
         is_plain: is_plain(breakpoint),
     })
 }
@@ -289,10 +308,10 @@ fn function_of(alloc: Global, breakpoint: &Value) -> Result<FunctionBreakpoint, 
 {
     let name = members::text_at(breakpoint, "name").ok_or(ArgumentFault::Arguments)?;
     let name = Text::copy_of(alloc, name)?;
-    let condition = condition_of(alloc, breakpoint)?;
+    let options = options_of(alloc, breakpoint)?;
     Ok(FunctionBreakpoint {
         name,
-        condition,
+        options,
         is_plain: is_plain(breakpoint),
     })
 }

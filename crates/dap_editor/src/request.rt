@@ -3,6 +3,7 @@ ghost use Rattle.std.specs.Prelude.{◌≡◌};
 
 use base_text::sequence::{Bytes, Sequence};
 use base_text::text::Text;
+use dap_messages::message::BreakpointOptions;
 use dap_talk::command::DapCommand;
 use lab_shown::step::Granularity;
 
@@ -53,20 +54,20 @@ pub struct Launch {
 }
 
 /// A breakpoint on a line of a source.
-#[derive(Clone, Drop)]
+#[derive(Drop)]
 pub struct LineBreakpoint {
     pub line: u32,
-    pub condition: Option<Text>,
-    /// Whether it asks for nothing else, such as a hit count or a log message.
+    pub options: BreakpointOptions,
+    /// Whether it asks for nothing else, such as a hit count.
     pub is_plain: bool,
 }
 
 /// A breakpoint at a label.
-#[derive(Clone, Drop)]
+#[derive(Drop)]
 pub struct FunctionBreakpoint {
     pub name: Text,
-    pub condition: Option<Text>,
-    /// Whether it asks for nothing else, such as a hit count or a log message.
+    pub options: BreakpointOptions,
+    /// Whether it asks for nothing else, such as a hit count.
     pub is_plain: bool,
 }
 

@@ -4,8 +4,9 @@ use base_text::text::Text;
 use dap_answers::answer::{Body, StopReason};
 use dap_messages::json::message_json;
 use dap_messages::message::{
-    BreakpointNote, EditorBody, EditorEvent, EditorOutcome, EditorResponse, EditorStop, GotoTarget,
-    Message, OutputCategory, PlacedBreakpoint, SourcePlace, UndefinedOpcode,
+    BreakpointNote, BreakpointOptions, EditorBody, EditorEvent, EditorOutcome, EditorResponse,
+    EditorStop, GotoTarget, Message, OutputCategory, PlacedBreakpoint, SourcePlace,
+    UndefinedOpcode,
 };
 use std::alloc::{AllocError, Global};
 
@@ -15,7 +16,7 @@ enum Note {
     NoCode(u32),
     NotLaunched,
     OtherProgram(&'static str),
-    Condition(&'static str),
+    Wrong(&'static str),
     NotSupported,
     NoLabel,
     TooMany,
@@ -27,7 +28,7 @@ fn breakpoint_note(alloc: Global, note: &Note) -> Result<BreakpointNote, AllocEr
         Note::NoCode(line) => Ok(BreakpointNote::NoCode { line: *line }),
         Note::NotLaunched => Ok(BreakpointNote::NotLaunched),
         Note::OtherProgram(path) => Ok(BreakpointNote::OtherProgram(Text::copy_of(alloc, path)?)),
-        Note::Condition(why) => Ok(BreakpointNote::Condition(Text::copy_of(alloc, why)?)),
+        Note::Wrong(why) => Ok(BreakpointNote::Wrong(Text::copy_of(alloc, why)?)),
         Note::NotSupported => Ok(BreakpointNote::NotSupported),
         Note::NoLabel => Ok(BreakpointNote::NoLabel),
         Note::TooMany => Ok(BreakpointNote::TooMany),
@@ -54,11 +55,16 @@ enum Shape {
     Targets(Option<(u16, u32)>),
 }
 
+const NO_OPTIONS: BreakpointOptions = BreakpointOptions {
+    condition: None,
+    log_message: None,
+};
+
 fn placed(row: (u32, Option<u32>, bool)) -> PlacedBreakpoint {
     PlacedBreakpoint {
         id: row.0,
         line: row.1,
-        condition: None,
+        options: NO_OPTIONS,
         is_verified: row.2,
         note: None,
     }
@@ -81,7 +87,7 @@ fn noted(alloc: Global, line: u32, row: &Note) -> Result<Sequence<PlacedBreakpoi
     list.push(PlacedBreakpoint {
         id: 1,
         line: Some(line),
-        condition: None,
+        options: NO_OPTIONS,
         is_verified: false,
         note: Some(note),
     })?;
@@ -156,7 +162,8 @@ const BODIES: [(Shape, &str); 25] = [
             r#""supportsConfigurationDoneRequest":true,"supportsDisassembleRequest":true,"#,
             r#""supportsEvaluateForHovers":true,"supportsExceptionInfoRequest":true,"#,
             r#""supportsFunctionBreakpoints":true,"supportsGotoTargetsRequest":true,"#,
-            r#""supportsLoadedSourcesRequest":true,"supportsReadMemoryRequest":true,"#,
+            r#""supportsLoadedSourcesRequest":true,"supportsLogPoints":true,"#,
+            r#""supportsReadMemoryRequest":true,"#,
             r#""supportsRestartRequest":true,"supportsSetVariable":true,"supportsStepBack":true,"#,
             r#""supportsSteppingGranularity":true,"supportsTerminateRequest":true,"#,
             r#""supportsWriteMemoryRequest":true}"#,
@@ -187,14 +194,14 @@ const BODIES: [(Shape, &str); 25] = [
         r#"{"breakpoints":[{"id":1,"line":1,"message":"the program is /a b.asm","verified":false}]}"#,
     ),
     (
-        Shape::Noted(1, Note::Condition("condition: Undefined")),
+        Shape::Noted(1, Note::Wrong("condition: Undefined")),
         r#"{"breakpoints":[{"id":1,"line":1,"message":"condition: Undefined","verified":false}]}"#,
     ),
     (
         Shape::Noted(1, Note::NotSupported),
         concat!(
-            r#"{"breakpoints":[{"id":1,"line":1,"message":"hit counts and log messages are not "#,
-            r#"supported","verified":false}]}"#,
+            r#"{"breakpoints":[{"id":1,"line":1,"message":"hit counts are not supported","#,
+            r#""verified":false}]}"#,
         ),
     ),
     (
@@ -306,6 +313,8 @@ enum Told {
     Output(OutputCategory, &'static [u8]),
     // Path, line and column.
     Placed(OutputCategory, &'static [u8], (&'static str, u32, u32)),
+    // Text, path and line.
+    Log(&'static str, &'static str, u32),
     Breakpoint((u32, Option<u32>, bool)),
     Exited(u8),
     Terminated,
@@ -334,6 +343,12 @@ fn output(
     })
 }
 
+fn log(alloc: Global, text: &str, row: (&str, u32, u32)) -> Result<EditorEvent, AllocError> {
+    let text = Text::copy_of(alloc, text)?;
+    let place = place(alloc, row)?;
+    Ok(EditorEvent::Log { text, place })
+}
+
 fn event(alloc: Global, told: &Told) -> Result<EditorEvent, AllocError> {
     match told {
         Told::Initialized => Ok(EditorEvent::Initialized),
@@ -349,13 +364,14 @@ fn event(alloc: Global, told: &Told) -> Result<EditorEvent, AllocError> {
             let place = place(alloc, *row)?;
             output(alloc, *category, bytes, Some(place))
         }
+        Told::Log(text, path, line) => log(alloc, text, (path, *line, 1)),
         Told::Breakpoint(row) => Ok(EditorEvent::Breakpoint(placed(*row))),
         Told::Exited(code) => Ok(EditorEvent::Exited { code: *code }),
         Told::Terminated => Ok(EditorEvent::Terminated),
     }
 }
 
-const EVENTS: [(Told, &str, &str); 17] = [
+const EVENTS: [(Told, &str, &str); 18] = [
     (Told::Initialized, "", "initialized"),
     (
         Told::Stopped(EditorStop::Entry),
@@ -419,6 +435,14 @@ const EVENTS: [(Told, &str, &str); 17] = [
         Told::Placed(OutputCategory::Stderr, b"3:5 Syntax\n", ("/a/b.asm", 3, 5)),
         concat!(
             r#""body":{"category":"stderr","column":5,"line":3,"output":"3:5 Syntax\n","#,
+            r#""source":{"name":"b.asm","path":"/a/b.asm"}},"#,
+        ),
+        "output",
+    ),
+    (
+        Told::Log("é is {B}", "/a/b.asm", 3),
+        concat!(
+            r#""body":{"category":"console","column":1,"line":3,"output":"é is {B}\n","#,
             r#""source":{"name":"b.asm","path":"/a/b.asm"}},"#,
         ),
         "output",

@@ -5,6 +5,7 @@ use dap_editor::request::{
     EditorCommand, EditorRequest, EvaluateContext, ExceptionFilters, FunctionBreakpoint, Launch,
     LineBreakpoint, RequestContent, RequestFault, SignedOffset, SupportedEvents,
 };
+use dap_messages::message::BreakpointOptions;
 use lab_shown::step::Granularity;
 use serde_json::Value;
 use std::alloc::{AllocError, Global};
@@ -74,15 +75,19 @@ fn put_launch(told: &mut String, launch: &Launch) -> Result<(), AllocError> {
     Ok(())
 }
 
-// What follows a breakpoint: its condition, and `?` if it asks for more.
-fn put_terms(
+// What follows a breakpoint: its options, and `?` if it asks for more.
+fn put_options(
     told: &mut String,
-    condition: &Option<Text>,
+    options: &BreakpointOptions,
     is_plain: bool,
 ) -> Result<(), AllocError> {
-    if let Some(condition) = condition {
+    if let Some(condition) = &options.condition {
         let text = condition.as_str();
         write!(told, " if {text}")?;
+    }
+    if let Some(message) = &options.log_message {
+        let text = message.as_str();
+        write!(told, " log {text}")?;
     }
     if !is_plain {
         told.push_str("?")?;
@@ -99,7 +104,7 @@ fn put_lines(
     for breakpoint in breakpoints {
         let line = breakpoint.line;
         write!(told, " {line}")?;
-        put_terms(told, &breakpoint.condition, breakpoint.is_plain)?;
+        put_options(told, &breakpoint.options, breakpoint.is_plain)?;
     }
     Ok(())
 }
@@ -109,7 +114,7 @@ fn put_functions(told: &mut String, breakpoints: &[FunctionBreakpoint]) -> Resul
     for breakpoint in breakpoints {
         let name = breakpoint.name.as_str();
         write!(told, " {name}")?;
-        put_terms(told, &breakpoint.condition, breakpoint.is_plain)?;
+        put_options(told, &breakpoint.options, breakpoint.is_plain)?;
     }
     Ok(())
 }
@@ -353,7 +358,9 @@ setBreakpoints {"source":{"path":"a"},"#,
     r#""breakpoints":[{"line":1,"condition":"B","hitCondition":"2"}]} -> lines a 1 if B?
 setBreakpoints {"source":{"path":"a"},"breakpoints":[{"line":1,"hitCondition":null}]} -> lines a 1
 setBreakpoints {"source":{"path":"a"},"breakpoints":[{"line":1,"hitCondition":"2"}]} -> lines a 1?
-setBreakpoints {"source":{"path":"a"},"breakpoints":[{"line":1,"logMessage":"x"}]} -> lines a 1?
+setBreakpoints {"source":{"path":"a"},"breakpoints":[{"line":1,"logMessage":"B {B}"}]} -> lines a 1 log B {B}
+setBreakpoints {"source":{"path":"a"},"breakpoints":[{"line":1,"logMessage":7}]} -> lines a 1?
+setBreakpoints {"source":{"path":"a"},"breakpoints":[{"line":1,"logMessage":"x"}]} -> lines a 1 log x
 setBreakpoints {"source":{"path":"a"},"breakpoints":[{"line":1,"logMessage":false}]} -> lines a 1?
 setBreakpoints {"source":{"path":"a"},"breakpoints":[{"line":4294967296}]} -> Arguments
 setBreakpoints {"source":{"path":"a"},"breakpoints":[{"line":-1}]} -> Arguments
@@ -371,6 +378,8 @@ setFunctionBreakpoints {"breakpoints":[{"name":"A","condition":""},{"name":""}]}
 setFunctionBreakpoints {"breakpoints":[{"name":"A","condition":"B"},{"name":"C"}]} -> functions A if B C
 setFunctionBreakpoints {"breakpoints":[{"name":"A","hitCondition":null}]} -> functions A
 setFunctionBreakpoints {"breakpoints":[{"name":"A","hitCondition":3}]} -> functions A?
+setFunctionBreakpoints {"breakpoints":[{"name":"A","condition":"B","logMessage":""}]} -> functions A if B
+setFunctionBreakpoints {"breakpoints":[{"name":"A","logMessage":""}]} -> functions A
 breakpointLocations {"source":{"path":"a.asm"},"line":5} -> locations a.asm 5 5
 breakpointLocations {"source":{"path":"a.asm"},"line":5,"endLine":9,"column":1} -> locations a.asm 5 9
 breakpointLocations {"source":{"path":"a.asm"},"line":5,"endLine":0} -> locations a.asm 5 0

@@ -83,19 +83,25 @@ program_board p kept b =
     let path = p.launch.program in
     armed_with p (number_of path kept.lists) (lines_at path kept.lists) (take 256 kept.functions) b
 
--- those that have conditions, of these lines and labels
-abbrev pub conditional_with : ℕ → List LineBreakpoint → List FunctionBreakpoint → Board
+-- those that have options; a run without a debugger has none
+abbrev pub conditional_in : Program → Board → List PlacedBreakpoint → List PlacedBreakpoint
     → List ConditionalBreakpoint
-conditional_with number lines functions b =
-    let on_lines = lines_on b number lines in
-    conditional_points b on_lines ++ conditional_points b (labels_behind b on_lines functions)
+conditional_in p b lines labels =
+    let path = p.launch.program in
+    if p.launch.is_debugged then conditional_points path b lines ++ conditional_points path b labels else []
+
+-- those of these lines and labels
+abbrev pub conditional_with : Program → ℕ → List LineBreakpoint → List FunctionBreakpoint → Board
+    → List ConditionalBreakpoint
+conditional_with p number lines functions b =
+    let on_lines = lines_on b number lines in conditional_in p b on_lines (labels_behind b on_lines functions)
 
 abbrev pub program_conditions : Program → WantedBreakpointsState → Board → List ConditionalBreakpoint
 program_conditions p kept b =
     let path = p.launch.program in
-    conditional_with (number_of path kept.lists) (lines_at path kept.lists) (take 256 kept.functions) b
+    conditional_with p (number_of path kept.lists) (lines_at path kept.lists) (take 256 kept.functions) b
 
--- For each board that the lab represents: it was armed so, and these are its breakpoints with conditions.
+-- For each board that the lab represents: it was armed so, and these are its breakpoints with options.
 abbrev pub ArmsAs : (Board → Board) → (Board → List ConditionalBreakpoint) → LabState
     → Result (List ConditionalBreakpoint) AllocError → LabState
     → Type 0

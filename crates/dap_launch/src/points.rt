@@ -74,6 +74,17 @@ pub fn labels_where(
     }
 }
 
+fn copy_line(breakpoint: &LineBreakpoint) -> Result<LineBreakpoint, AllocError>
+    ensures { IfOk result (λ copy. copy ≡ breakpoint.now) }
+{
+    let options = breakpoint.options.clone()?;
+    Ok(LineBreakpoint {
+        line: breakpoint.line,
+        options,
+        is_plain: breakpoint.is_plain,
+    })
+}
+
 /// A copy of breakpoints on lines.
 pub fn copy_lines(
     alloc: Global,
@@ -83,14 +94,21 @@ pub fn copy_lines(
 {
     let mut copies = Sequence::new(alloc);
     for breakpoint in lines {
-        let condition = breakpoint.condition.clone()?;
-        copies.push(LineBreakpoint {
-            line: breakpoint.line,
-            condition,
-            is_plain: breakpoint.is_plain,
-        })?;
+        copies.push(copy_line(breakpoint)?)?;
     }
     Ok(copies)
+}
+
+fn copy_function(function: &FunctionBreakpoint) -> Result<FunctionBreakpoint, AllocError>
+    ensures { IfOk result (λ copy. copy ≡ function.now) }
+{
+    let name = function.name.clone()?;
+    let options = function.options.clone()?;
+    Ok(FunctionBreakpoint {
+        name,
+        options,
+        is_plain: function.is_plain,
+    })
 }
 
 /// A copy of breakpoints at labels.
@@ -102,13 +120,7 @@ pub fn copy_functions(
 {
     let mut copies = Sequence::new(alloc);
     for function in functions {
-        let name = function.name.clone()?;
-        let condition = function.condition.clone()?;
-        copies.push(FunctionBreakpoint {
-            name,
-            condition,
-            is_plain: function.is_plain,
-        })?;
+        copies.push(copy_function(function)?)?;
     }
     Ok(copies)
 }

@@ -4,7 +4,8 @@ ghost use Rattle.lab_core.specs.Board.{Board};
 ghost use Rattle.lab_core.specs.Labs.{RepresentsBoard};
 ghost use Rattle.dap_program.specs.Boards.{begin_run};
 ghost use Rattle.dap_launch.specs.Programs.{pauses, with_input, begun_board, begun_if, board_if};
-ghost use Rattle.dap_launch.specs.Programs.{program_lines, labels_for, conditional_with, armed_with, ArmsAs};
+ghost use Rattle.dap_launch.specs.Programs.{program_lines, labels_for, conditional_in, conditional_with};
+ghost use Rattle.dap_launch.specs.Programs.{armed_with, ArmsAs};
 ghost use Rattle.dap_launch.specs.Programs.{program_conditions, program_board};
 
 use base_text::latin::to_bytes;
@@ -153,8 +154,25 @@ pub fn labels_for(
     labels_behind(alloc, lab, lines.as_slice(), functions)
 }
 
+// Those of a program's breakpoints that have options.
+fn conditional_in(
+    alloc: Global,
+    lab: &Lab,
+    program: &Program,
+    lines: &[PlacedBreakpoint],
+    labels: &[PlacedBreakpoint],
+) -> Result<ConditionalBreakpoints, AllocError>
+    ensures { (b : Board) → RepresentsBoard lab.now b → IfOk result
+        (λ points. points ≡ conditional_in program.now b lines.now labels.now) }
+{
+    if !program.launch.is_debugged {
+        return ConditionalBreakpoints::new(alloc);
+    }
+    conditional_points(alloc, lab, &program.launch.program, lines, labels)
+}
+
 /// Makes a program's board stop on these lines of the program, which is the source with this number, and at
-/// these labels, and returns those breakpoints that have conditions. If memory runs out the board stays as it
+/// these labels, and returns those breakpoints that have options. If memory runs out the board stays as it
 /// was.
 pub fn arm_with(
     alloc: Global,
@@ -166,19 +184,19 @@ pub fn arm_with(
 ) -> Result<ConditionalBreakpoints, AllocError>
     requires bounds { (number ≤ 1025) × (length lines.now ≤ 256) × (length functions.now ≤ 256) }
     ensures ok { ArmsAs (armed_with program.now number lines.now functions.now)
-        (conditional_with number lines.now functions.now) lab.old result lab.new }
+        (conditional_with program.now number lines.now functions.now) lab.old result lab.new }
     ensures err { OnErr result (lab.new ≡ lab.old) }
 {
     let lines = lines_on(alloc, lab, number, lines)?;
     let labels = labels_behind(alloc, lab, lines.as_slice(), functions)?;
-    let points = conditional_points(alloc, lab, lines.as_slice(), labels.as_slice())?;
+    let points = conditional_in(alloc, lab, program, lines.as_slice(), labels.as_slice())?;
     let path = &program.launch.program;
     arm(alloc, lab, path, lines.as_slice(), labels.as_slice())?;
     Ok(points)
 }
 
 /// Makes a program's board stop at the breakpoints that are kept for the program, and returns those that have
-/// conditions. If memory runs out the board stays as it was.
+/// options. If memory runs out the board stays as it was.
 pub fn arm_program(
     alloc: Global,
     lab: &mut Lab,

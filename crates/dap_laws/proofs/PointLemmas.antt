@@ -1,6 +1,6 @@
 -- A breakpoint that is told as verified is met.
 use Rattle.std.proofs.Common.{◌≡◌, ◌≤◌, ◌∙◌, ℕ, List, [], ◌∷◌, ◌++◌, length, map, take}
-use Rattle.std.proofs.Common.{zero, Bool, true, false, ◌||◌}
+use Rattle.std.proofs.Common.{zero, Bool, true, false, ◌||◌, if◌then◌else◌, option_and_then}
 use Rattle.std.proofs.Common.{◌==◌, Option, Some, None, refl, sym, ap, subst, ⊎_elim, arith}
 use Rattle.std.specs.List.{Contains, list_any, filter_map, cons_option}
 use Rattle.std.proofs.lemmas.List.{length-map, take_all}
@@ -16,19 +16,18 @@ use Rattle.lab_core.specs.Board.{Board}
 use Rattle.dap_editor.specs.declared.request.LineBreakpoint.{LineBreakpoint}
 use Rattle.dap_editor.specs.declared.request.FunctionBreakpoint.{FunctionBreakpoint}
 use Rattle.dap_messages.specs.declared.message.PlacedBreakpoint.{PlacedBreakpoint}
-use Rattle.dap_messages.specs.declared.message.GotoTarget.{GotoTarget}
-use Rattle.dap_expr.specs.declared.expression.Expression.{Expression}
-use Rattle.dap_expr.specs.Expressions.{expression_of}
+use Rattle.dap_slice.specs.declared.conditions.ConditionalBreakpoint.{ConditionalBreakpoint}
 use Rattle.dap_points.specs.Boards.{wanted_lines}
 use Rattle.dap_points.proofs.BoardLemmas.{few_wanted, verified_is_wanted}
 use Rattle.dap_program.specs.Boards.{after}
 use Rattle.dap_program.specs.Breakpoints.{lines_on, labels_behind, found_label}
 use Rattle.dap_lines.specs.CodeLines.{landed_at}
-use Rattle.dap_lines.specs.Conditions.{breakpoint_at, conditional_on, conditional_point}
+use Rattle.dap_lines.specs.Conditions.{with_log, with_condition, breakpoint_at, conditional_point}
 use Rattle.dap_lines.specs.Conditions.{conditional_points}
+use Rattle.dap_lines.specs.Targets.{first_target}
 use Rattle.dap_launch.specs.declared.program.Program.{Program}
 use Rattle.dap_launch.specs.Programs.{armed_with, conditional_with}
-use Rattle.dap_laws.specs.Points.{IsVerified, BeginsOn, IsTold, HasCondition, at_target}
+use Rattle.dap_laws.specs.Points.{IsVerified, BeginsOn, IsTold, AsksFor}
 
 -- ---- lists of lines
 
@@ -102,7 +101,7 @@ verified_met p number lines functions b line few one address begins =
     ∙ (ap (λ lists. has_breakpoint lists begins.number line) armed
     ∙ in_lists begins.number all line b.breakpoints wanted)
 
--- ---- conditions
+-- ---- options
 
 at_head : {B : Type 0} (found : Option B) (others : List B) (y : B) → found ≡ Some y
     → Contains (cons_option found others) y
@@ -127,26 +126,36 @@ made_of f (z ∷ xs) x y has is =
     (λ behind. later_on (f z) (filter_map f xs) y (made_of f xs x y behind is))
     (Contains-append_cases (z ∷ []) xs x has)
 
-made_at : (b : Board) (point : PlacedBreakpoint) (target : GotoTarget) (condition : Expression)
-    → HasCondition b point target condition
-    → conditional_point b point ≡ Some (at_target target condition)
-made_at b point target condition has =
-    ap (λ text. conditional_on b text point.line) has.is
-    ∙ (ap (λ t. breakpoint_at t (expression_of has.text)) has.begins
-    ∙ ap (breakpoint_at (Some target)) has.read)
+made_at : (p : Program) (b : Board) (point : PlacedBreakpoint) (kept : ConditionalBreakpoint)
+    → AsksFor p b point kept → conditional_point p.launch.program b point ≡ Some kept
+made_at p b point kept asks =
+    let path = p.launch.program in
+    let o = point.options in
+    let at : Bool → Option ConditionalBreakpoint =
+    λ plain. if plain then None else breakpoint_at path o (option_and_then (first_target b) point.line) in
+    ap at asks.some
+    ∙ (ap (breakpoint_at path o) asks.begins
+    ∙ (ap (with_condition path asks.target o.log_message) asks.condition_is
+    ∙ (ap (with_log path asks.target asks.condition) asks.message_is
+    ∙ ap (λ k. Some k) (sym asks.kept_is))))
 
-pub condition_asked : (number : ℕ) (lines : List LineBreakpoint) (functions : List FunctionBreakpoint)
-    (b : Board) (point : PlacedBreakpoint) (target : GotoTarget) (condition : Expression)
-    → IsTold number lines functions b point → HasCondition b point target condition
-    → Contains (conditional_with number lines functions b) (at_target target condition)
-condition_asked number lines functions b point target condition told has =
+pub options_kept : (p : Program) (number : ℕ) (lines : List LineBreakpoint)
+    (functions : List FunctionBreakpoint) (b : Board) (point : PlacedBreakpoint)
+    (kept : ConditionalBreakpoint) → IsTold number lines functions b point → AsksFor p b point kept
+    → Contains (conditional_with p number lines functions b) kept
+options_kept p number lines functions b point kept told asks =
+    let path = p.launch.program in
     let on_lines = lines_on b number lines in
     let at_labels = labels_behind b on_lines functions in
-    let there = made_at b point target condition has in
-    let found = at_target target condition in
-    ⊎_elim
-    (λ on_line. Contains-append_left (conditional_points b on_lines) (conditional_points b at_labels) found
-    (made_of (conditional_point b) on_lines point found on_line there))
-    (λ at_label. Contains-append_right (conditional_points b on_lines) (conditional_points b at_labels) found
-    (made_of (conditional_point b) at_labels point found at_label there))
-    (Contains-append_cases on_lines at_labels point told)
+    let there = made_at p b point kept asks in
+    let of_lines = conditional_points path b on_lines in
+    let of_labels = conditional_points path b at_labels in
+    let all = of_lines ++ of_labels in
+    let is_all : conditional_with p number lines functions b ≡ all =
+    ap (λ d. if d then all else []) asks.is_debugged in
+    subst (λ points. Contains points kept) (sym is_all) (⊎_elim
+    (λ on_line. Contains-append_left of_lines of_labels kept
+    (made_of (conditional_point path b) on_lines point kept on_line there))
+    (λ at_label. Contains-append_right of_lines of_labels kept
+    (made_of (conditional_point path b) at_labels point kept at_label there))
+    (Contains-append_cases on_lines at_labels point told))

@@ -35,8 +35,8 @@ locations first last b = filter (λ line. nat_le first line && nat_le line last)
 abbrev pub landed_in : Board → List ℕ → LineBreakpoint → LandedLine
 landed_in b lines asked = record {
   line = asked.line;
-  condition = asked.condition;
-  objection = objection b asked.condition asked.is_plain;
+  options = asked.options;
+  objection = objection b asked.options asked.is_plain;
   landing = find (nat_le asked.line) lines;
 }
 

@@ -63,11 +63,11 @@ fn landed_in(
     ensures { (b : Board) → RepresentsBoard lab.now b
         → IfOk result (λ landed. landed ≡ landed_in b lines.now.keys asked.now) }
 {
-    let objection = objection(alloc, lab, &asked.condition, asked.is_plain)?;
-    let condition = asked.condition.clone()?;
+    let objection = objection(alloc, lab, &asked.options, asked.is_plain)?;
+    let options = asked.options.clone()?;
     Ok(LandedLine {
         line: asked.line,
-        condition,
+        options,
         objection,
         landing: first_from(lines, asked.line),
     })

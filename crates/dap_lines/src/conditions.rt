@@ -1,12 +1,16 @@
-//! The conditions of breakpoints.
-ghost use Rattle.std.specs.Prelude.{◌≡◌, ◌++◌, IfOk, OnOk, Ok, Err, option_and_then, option_to_list};
+//! The conditions and log messages of breakpoints.
+ghost use Rattle.std.specs.Prelude.{◌≡◌, ◌++◌, IfOk, OnOk, Ok, Err, option_and_then, option_map};
+ghost use Rattle.std.specs.Prelude.{option_to_list};
 ghost use Rattle.asm_syntax.specs.Outcome.{LineGives};
 ghost use Rattle.lab_core.specs.Board.{Board};
 ghost use Rattle.lab_core.specs.Labs.{RepresentsBoard};
 ghost use Rattle.dap_expr.specs.Expressions.{expression_of};
 ghost use Rattle.dap_lines.specs.Conditions as conditions;
+ghost use Rattle.dap_log.specs.Messages.{LogGives, message_of};
 ghost use Rattle.dap_lines.specs.Conditions.{fault_text, value_objection, condition_objection, objection};
-ghost use Rattle.dap_lines.specs.Conditions.{expression_objection, conditional_on, conditional_point};
+ghost use Rattle.dap_lines.specs.Conditions.{expression_objection, log_fault_text, message_objection};
+ghost use Rattle.dap_lines.specs.Conditions.{log_objection, first_objection, condition_read, log_read};
+ghost use Rattle.dap_lines.specs.Conditions.{log_point, with_log, conditional_point};
 ghost use Rattle.dap_lines.specs.Conditions.{conditional_points};
 ghost use Rattle.dap_lines.specs.Targets as targets;
 
@@ -15,12 +19,14 @@ use asm_expr::evaluation::ExprFault;
 use asm_syntax::fault::{FaultKind, LineFault};
 use base_text::text::Text;
 use dap_expr::expression::Expression;
-use dap_messages::message::{BreakpointNote, GotoTarget, PlacedBreakpoint};
-use dap_slice::conditions::{ConditionalBreakpoint, ConditionalBreakpoints};
+use dap_log::message::{LogFault, LogMessage};
+use dap_messages::message::{BreakpointNote, BreakpointOptions, GotoTarget, PlacedBreakpoint};
+use dap_points::board::is_plain;
+use dap_slice::conditions::{ConditionalBreakpoint, ConditionalBreakpoints, LogPoint};
 use lab_core::lab::Lab;
 use std::alloc::{AllocError, Global};
 
-// ---- what there is to object to a breakpoint
+// ---- what there is to object to a breakpoint's condition
 
 fn fault_text(alloc: Global, column: usize, kind: FaultKind) -> Result<Text, AllocError>
     ensures { IfOk result (λ text. text ≡ fault_text (column, kind)) }
@@ -40,7 +46,7 @@ fn value_objection(
     match value {
         Err(ExprFault::Undefined) => {
             let text = Text::copy_of(alloc, "condition: Undefined")?;
-            Ok(Some(BreakpointNote::Condition(text)))
+            Ok(Some(BreakpointNote::Wrong(text)))
         }
         Err(ExprFault::Divisor) | Ok(_) => Ok(None),
     }
@@ -59,7 +65,7 @@ fn text_objection(
         Err(LineFault::OutOfMemory) => Err(AllocError),
         Err(LineFault::At { column, kind }) => {
             let text = fault_text(alloc, column, kind)?;
-            Ok(Some(BreakpointNote::Condition(text)))
+            Ok(Some(BreakpointNote::Wrong(text)))
         }
     }
 }
@@ -78,42 +84,163 @@ fn condition_objection(
     }
 }
 
-/// What there is to object to a breakpoint with this condition, which may ask for something that isn't
+// ---- and to its log message
+
+fn log_fault_text(alloc: Global, fault: LogFault) -> Result<Text, AllocError>
+    ensures { IfOk result (λ text. text ≡ log_fault_text fault) }
+{
+    let mut text = String::new(alloc);
+    match fault {
+        LogFault::OutOfMemory => text.push_str("out of memory")?,
+        LogFault::OpenBrace { column } => write!(text, "log message, column {column}: open brace")?,
+        LogFault::At { column, kind } => {
+            write!(text, "log message, column {column}: ")?;
+            text.push_str(kind.name())?;
+        }
+    }
+    Ok(Text::from(text))
+}
+
+fn message_objection(
+    alloc: Global,
+    lab: &Lab,
+    text: &str,
+) -> Result<Option<BreakpointNote>, AllocError>
+    ensures { (b : Board) → RepresentsBoard lab.now b
+        → IfOk result (λ note. note ≡ message_objection b (message_of text.now)) }
+{
+    match LogMessage::parse(alloc, text) {
+        Ok(message) if message.is_undefined(lab) => {
+            let text = Text::copy_of(alloc, "log message: Undefined")?;
+            Ok(Some(BreakpointNote::Wrong(text)))
+        }
+        Ok(_) => Ok(None),
+        Err(LogFault::OutOfMemory) => Err(AllocError),
+        Err(fault) => Ok(Some(BreakpointNote::Wrong(log_fault_text(alloc, fault)?))),
+    }
+}
+
+fn log_objection(
+    alloc: Global,
+    lab: &Lab,
+    log_message: &Option<Text>,
+) -> Result<Option<BreakpointNote>, AllocError>
+    ensures { (b : Board) → RepresentsBoard lab.now b
+        → IfOk result (λ note. note ≡ log_objection b log_message.now) }
+{
+    match log_message {
+        None => Ok(None),
+        Some(text) => message_objection(alloc, lab, text.as_str()),
+    }
+}
+
+// ---- and to both
+
+fn options_objection(
+    alloc: Global,
+    lab: &Lab,
+    options: &BreakpointOptions,
+) -> Result<Option<BreakpointNote>, AllocError>
+    ensures { (b : Board) → RepresentsBoard lab.now b → IfOk result (λ note. note
+        ≡ first_objection (condition_objection b options.now.condition)
+        (log_objection b options.now.log_message)) }
+{
+    match condition_objection(alloc, lab, &options.condition)? {
+        None => log_objection(alloc, lab, &options.log_message),
+        Some(note) => Ok(Some(note)),
+    }
+}
+
+/// What there is to object to a breakpoint with these options, which may ask for something that isn't
 /// supported.
 pub fn objection(
     alloc: Global,
     lab: &Lab,
-    condition: &Option<Text>,
+    options: &BreakpointOptions,
     is_plain: bool,
 ) -> Result<Option<BreakpointNote>, AllocError>
     ensures { (b : Board) → RepresentsBoard lab.now b
-        → IfOk result (λ note. note ≡ objection b condition.now is_plain) }
+        → IfOk result (λ note. note ≡ objection b options.now is_plain) }
 {
     if is_plain {
-        condition_objection(alloc, lab, condition)
+        options_objection(alloc, lab, options)
     } else {
         Ok(Some(BreakpointNote::NotSupported))
     }
 }
 
-// ---- breakpoints with conditions
+// ---- breakpoints with options
 
-// The breakpoint with this condition where the statement begins.
+fn condition_read(alloc: Global, condition: &Option<Text>) -> Result<Option<Expression>, LineFault>
+    ensures { LineGives (λ condition. condition) result (condition_read condition.now) }
+{
+    match condition {
+        None => Ok(None),
+        Some(text) => Ok(Some(Expression::parse(alloc, text.as_str())?)),
+    }
+}
+
+fn log_read(alloc: Global, log_message: &Option<Text>) -> Result<Option<LogMessage>, LogFault>
+    ensures { LogGives result (log_read log_message.now) }
+{
+    match log_message {
+        None => Ok(None),
+        Some(text) => Ok(Some(LogMessage::parse(alloc, text.as_str())?)),
+    }
+}
+
+fn log_point(
+    target: GotoTarget,
+    path: &Text,
+    message: Option<LogMessage>,
+) -> Result<Option<LogPoint>, AllocError>
+    ensures { IfOk result (λ log. log ≡ option_map (log_point path.now target) message) }
+{
+    match message {
+        None => Ok(None),
+        Some(message) => Ok(Some(LogPoint {
+            message,
+            path: path.clone()?,
+            line: target.line,
+        })),
+    }
+}
+
+// A breakpoint where the statement begins, with this condition.
+fn with_log(
+    alloc: Global,
+    target: GotoTarget,
+    path: &Text,
+    condition: Option<Expression>,
+    log_message: &Option<Text>,
+) -> Result<Option<ConditionalBreakpoint>, AllocError>
+    ensures { IfOk result (λ point. point
+        ≡ with_log path.now target condition (log_read log_message.now)) }
+{
+    match log_read(alloc, log_message) {
+        Ok(message) => Ok(Some(ConditionalBreakpoint {
+            address: target.address,
+            condition,
+            log: log_point(target, path, message)?,
+        })),
+        Err(LogFault::OutOfMemory) => Err(AllocError),
+        Err(_) => Ok(None),
+    }
+}
+
 fn breakpoint_at(
     alloc: Global,
     target: Option<GotoTarget>,
-    text: &str,
+    path: &Text,
+    options: &BreakpointOptions,
 ) -> Result<Option<ConditionalBreakpoint>, AllocError>
-    ensures { IfOk result (λ point. point ≡ conditions.breakpoint_at target (expression_of text.now)) }
+    ensures { IfOk result (λ point. point ≡ conditions.breakpoint_at path.now options.now target) }
 {
     let Some(target) = target else {
         return Ok(None);
     };
-    match Expression::parse(alloc, text) {
-        Ok(condition) => Ok(Some(ConditionalBreakpoint {
-            address: target.address,
-            condition,
-        })),
+    match condition_read(alloc, &options.condition) {
+        Ok(condition) => with_log(alloc, target, path, condition, &options.log_message),
         Err(LineFault::OutOfMemory) => Err(AllocError),
         Err(LineFault::At { .. }) => Ok(None),
     }
@@ -129,15 +256,16 @@ fn target_on(lab: &Lab, line: Option<u32>) -> Option<GotoTarget>
 fn conditional_point(
     alloc: Global,
     lab: &Lab,
+    path: &Text,
     point: &PlacedBreakpoint,
 ) -> Result<Option<ConditionalBreakpoint>, AllocError>
     ensures { (b : Board) → RepresentsBoard lab.now b
-        → IfOk result (λ found. found ≡ conditional_point b point.now) }
+        → IfOk result (λ found. found ≡ conditional_point path.now b point.now) }
 {
-    match &point.condition {
-        None => Ok(None),
-        Some(text) => breakpoint_at(alloc, target_on(lab, point.line), text.as_str()),
+    if is_plain(&point.options) {
+        return Ok(None);
     }
+    breakpoint_at(alloc, target_on(lab, point.line), path, &point.options)
 }
 
 fn push_point(
@@ -155,32 +283,35 @@ fn push_point(
 fn push_points(
     alloc: Global,
     lab: &Lab,
+    path: &Text,
     points: &mut ConditionalBreakpoints,
     placed: &[PlacedBreakpoint],
 ) -> Result<(), AllocError>
     ensures { (b : Board) → RepresentsBoard lab.now b
-        → OnOk result (points.new ≡ points.old ++ conditional_points b placed.now) }
+        → OnOk result (points.new ≡ points.old ++ conditional_points path.now b placed.now) }
 {
     let mut left = placed;
     while let Some((point, later)) = left.split_first() {
-        push_point(points, conditional_point(alloc, lab, point)?)?;
+        push_point(points, conditional_point(alloc, lab, path, point)?)?;
         left = later;
     }
     Ok(())
 }
 
-/// Those of these breakpoints that have conditions, first those on lines, then those at labels.
+/// Those of these breakpoints of the source with this path that have options, first those on lines, then
+/// those at labels.
 pub fn conditional_points(
     alloc: Global,
     lab: &Lab,
+    path: &Text,
     lines: &[PlacedBreakpoint],
     labels: &[PlacedBreakpoint],
 ) -> Result<ConditionalBreakpoints, AllocError>
-    ensures { (b : Board) → RepresentsBoard lab.now b → IfOk result
-        (λ points. points ≡ conditional_points b lines.now ++ conditional_points b labels.now) }
+    ensures { (b : Board) → RepresentsBoard lab.now b → IfOk result (λ points. points
+        ≡ conditional_points path.now b lines.now ++ conditional_points path.now b labels.now) }
 {
     let mut points = ConditionalBreakpoints::new(alloc)?;
-    push_points(alloc, lab, &mut points, lines)?;
-    push_points(alloc, lab, &mut points, labels)?;
+    push_points(alloc, lab, path, &mut points, lines)?;
+    push_points(alloc, lab, path, &mut points, labels)?;
     Ok(points)
 }

@@ -64,8 +64,8 @@ note_text (note.Moved from) = codes "moved from line " ++ decimal from
 note_text (note.NoCode line) = codes "no code at or below line " ++ decimal line
 note_text note.NotLaunched = codes "nothing is launched yet"
 note_text (note.OtherProgram path) = codes "the program is " ++ path
-note_text (note.Condition why) = why
-note_text note.NotSupported = codes "hit counts and log messages are not supported"
+note_text (note.Wrong why) = why
+note_text note.NotSupported = codes "hit counts are not supported"
 note_text note.NoLabel = codes "the program has no such label"
 note_text note.TooMany = codes "more than 256 breakpoints"
 
@@ -141,6 +141,7 @@ capabilities_json = object_of (
     can (codes "supportsFunctionBreakpoints") ∷
     can (codes "supportsGotoTargetsRequest") ∷
     can (codes "supportsLoadedSourcesRequest") ∷
+    can (codes "supportsLogPoints") ∷
     can (codes "supportsReadMemoryRequest") ∷
     can (codes "supportsRestartRequest") ∷
     can (codes "supportsSetVariable") ∷
@@ -254,6 +255,15 @@ abbrev pub output_json : OutputCategory → Bytes → Option SourcePlace → Dat
 output_json category bytes None = object_of (bare_output category bytes)
 output_json category bytes (Some place) = placed_output category bytes place
 
+-- it goes to the debugger's console
+abbrev pub log_json : Text → SourcePlace → Data
+log_json text place = object_of (
+    (codes "category", string (category_text category.Console)) ∷
+    (codes "column", whole_number place.column) ∷
+    (codes "line", whole_number place.line) ∷
+    (codes "output", string (text ++ codes "\n")) ∷
+    (codes "source", source_json place.path) ∷ [])
+
 abbrev pub changed_json : PlacedBreakpoint → Data
 changed_json b = object_of (
     (codes "breakpoint", placed_json b) ∷
@@ -279,6 +289,7 @@ editor_event_json seq (event.Stopped reason) = stopped_json seq reason
 editor_event_json seq event.Continued = event_json seq board.Continued
 editor_event_json seq (event.Output category bytes place) =
     event_with_body seq (codes "output") (output_json category bytes place)
+editor_event_json seq (event.Log text place) = event_with_body seq (codes "output") (log_json text place)
 editor_event_json seq (event.Breakpoint b) =
     event_with_body seq (codes "breakpoint") (changed_json b)
 editor_event_json seq event.Invalidated =

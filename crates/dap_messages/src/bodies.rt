@@ -58,6 +58,7 @@ fn capabilities(alloc: Global) -> Result<Value, AllocError>
         .flag("supportsFunctionBreakpoints", true)
         .flag("supportsGotoTargetsRequest", true)
         .flag("supportsLoadedSourcesRequest", true)
+        .flag("supportsLogPoints", true)
         .flag("supportsReadMemoryRequest", true)
         .flag("supportsRestartRequest", true)
         .flag("supportsSetVariable", true)
@@ -80,9 +81,9 @@ fn note_text(alloc: Global, note: &BreakpointNote) -> Result<Text, AllocError>
             text.push_str("the program is ")?;
             text.push_str(path.as_str())?;
         }
-        BreakpointNote::Condition(why) => text.push_str(why.as_str())?,
+        BreakpointNote::Wrong(why) => text.push_str(why.as_str())?,
         BreakpointNote::NotSupported => {
-            text.push_str("hit counts and log messages are not supported")?;
+            text.push_str("hit counts are not supported")?;
         }
         BreakpointNote::NoLabel => text.push_str("the program has no such label")?,
         BreakpointNote::TooMany => text.push_str("more than 256 breakpoints")?,

@@ -8,13 +8,15 @@ ghost use Rattle.dap_answers.specs.Json.{members_from};
 ghost use Rattle.dap_messages.specs.Json.{bare_stop_json, halted_json, stopped_at_json, stopped_json};
 ghost use Rattle.dap_messages.specs.Json.{bare_output, placed_output};
 ghost use Rattle.dap_messages.specs.Json.{invalidated_json, memory_changed_json};
-ghost use Rattle.dap_messages.specs.Json.{output_json, changed_json, exited_json, editor_event_json};
+ghost use Rattle.dap_messages.specs.Json.{output_json, log_json, changed_json, exited_json};
+ghost use Rattle.dap_messages.specs.Json.{editor_event_json};
 
 use crate::bodies::{exception_text, source};
 use crate::message::{
     EditorEvent, EditorStop, OutputCategory, PlacedBreakpoint, SourcePlace, UndefinedOpcode,
 };
 use base_text::latin;
+use base_text::text::Text;
 use dap_answers::answer::Event;
 use dap_answers::json::{ToJson, reference};
 use dap_answers::object::Object;
@@ -126,6 +128,21 @@ fn output(
     }
 }
 
+fn log(alloc: Global, text: &Text, place: &SourcePlace) -> Result<Value, AllocError>
+    ensures { IfOk result (λ v. view v ≡ log_json text.now place.now) }
+{
+    let mut line = String::from_str(alloc, text.as_str())?;
+    line.push_str("\n")?;
+    let source = source(alloc, place.path.as_str())?;
+    Object::new(alloc)
+        .text("category", OutputCategory::Console.as_str())
+        .text("output", line.as_str())
+        .value("source", source)
+        .number("line", u64::from(place.line))
+        .number("column", u64::from(place.column))
+        .finish()
+}
+
 fn changed(alloc: Global, breakpoint: &PlacedBreakpoint) -> Result<Value, AllocError>
     ensures { IfOk result (λ v. view v ≡ changed_json breakpoint.now) }
 {
@@ -192,6 +209,9 @@ pub fn editor_event_json(
         } => {
             let body = output(alloc, *category, bytes.as_slice(), place)?;
             event_with_body(alloc, seq, "output", body)
+        }
+        EditorEvent::Log { text, place } => {
+            event_with_body(alloc, seq, "output", log(alloc, text, place)?)
         }
         EditorEvent::Breakpoint(breakpoint) => {
             event_with_body(alloc, seq, "breakpoint", changed(alloc, breakpoint)?)

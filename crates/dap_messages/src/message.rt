@@ -13,22 +13,31 @@ pub enum BreakpointNote {
     NotLaunched,
     /// The program is the file with this path.
     OtherProgram(Text),
-    /// What is wrong with its condition.
-    Condition(Text),
-    /// It has a hit count or a log message.
+    /// What is wrong with its condition or its log message.
+    Wrong(Text),
+    /// It has a hit count.
     NotSupported,
     NoLabel,
     TooMany,
 }
 
-/// A breakpoint as a response shows it. An event that changes it refers to its number.
+/// What an editor asks of a breakpoint beside its place (Debug Adapter Protocol, "SourceBreakpoint").
 #[derive(Clone, Drop)]
+pub struct BreakpointOptions {
+    /// It stops the run only where this is true.
+    pub condition: Option<Text>,
+    /// What is told in place of a stop.
+    pub log_message: Option<Text>,
+}
+
+/// A breakpoint as a response shows it. An event that changes it refers to its number.
+#[derive(Drop)]
 pub struct PlacedBreakpoint {
     pub id: u32,
     /// `None` for a label that doesn't exist.
     pub line: Option<u32>,
-    /// Its condition, which the response doesn't repeat.
-    pub condition: Option<Text>,
+    /// Its options, which the response doesn't repeat.
+    pub options: BreakpointOptions,
     pub is_verified: bool,
     /// A message for the user.
     pub note: Option<BreakpointNote>,
@@ -137,6 +146,11 @@ pub enum EditorEvent {
         category: OutputCategory,
         bytes: Bytes,
         place: Option<SourcePlace>,
+    },
+    /// A line that a breakpoint tells in place of a stop, without its end.
+    Log {
+        text: Text,
+        place: SourcePlace,
     },
     /// A breakpoint isn't what it was.
     Breakpoint(PlacedBreakpoint),

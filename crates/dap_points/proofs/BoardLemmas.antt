@@ -1,21 +1,21 @@
 -- How many lines a board stops at, and which.
 use Rattle.std.proofs.Common.{◌≡◌, ◌≤◌, ℕ, zero, suc, ◌+◌, ◌-◌, ◌==◌, List, [], ◌∷◌, ◌++◌, length, Bool}
-use Rattle.std.proofs.Common.{true, false, if◌then◌else◌, Option, Some, None, is_none, refl, ap, ◌∙◌}
+use Rattle.std.proofs.Common.{true, false, if◌then◌else◌, Option, Some, None, refl, ap, ◌∙◌}
 use Rattle.std.proofs.Common.{⊎_elim, arith}
 use Rattle.std.proofs.Common.{length-append}
 use Rattle.std.specs.List.{cons_option, Contains}
 use Rattle.std.proofs.lemmas.List.Elements.{Contains-append_left, Contains-append_right}
 use Rattle.std.proofs.lemmas.List.Elements.{Contains-append_cases, Contains-push_cases}
-use Rattle.base_text.specs.Bytes.{Text}
 use Rattle.dap_messages.specs.declared.message.BreakpointNote.{BreakpointNote}
 use Rattle.dap_messages.specs.declared.message.BreakpointNote.TheVariants.{TooMany}
+use Rattle.dap_messages.specs.declared.message.BreakpointOptions.{BreakpointOptions}
 use Rattle.dap_messages.specs.declared.message.PlacedBreakpoint.{PlacedBreakpoint}
 use Rattle.dap_points.specs.declared.placed.LandedLine.{LandedLine}
 use Rattle.dap_points.specs.declared.placed.FoundLabel.{FoundLabel}
 use Rattle.dap_points.specs.Placed.{id_at, met_at, unmet_at, line_points, label_point, room_after}
 use Rattle.dap_points.specs.Placed.{label_points}
-use Rattle.dap_points.specs.Boards.{verified_line, verified_lines, room_behind, plain_line, plain_lines}
-use Rattle.dap_points.specs.Boards.{wanted_lines}
+use Rattle.dap_points.specs.Boards.{verified_line, verified_lines, room_behind, is_plain, plain_line}
+use Rattle.dap_points.specs.Boards.{plain_lines, wanted_lines}
 
 one_at_most : (line : Option ℕ) (lines : List ℕ) (n : ℕ) → length lines ≤ n
     → length (cons_option line lines) ≤ n + 1
@@ -42,50 +42,49 @@ same_number number index [] = omega arith
 same_number number index (l ∷ ls) = let e = same_number number (index + 1) ls in omega (arith, e)
 
 -- a verified label takes room from the others
-one_found : (is_full : Bool) (id room line : ℕ) (condition : Option Text)
+one_found : (is_full : Bool) (id room line : ℕ) (options : BreakpointOptions)
     (others : ℕ → List PlacedBreakpoint)
     → ((r : ℕ) → length (verified_lines (others r)) ≤ r) → (is_full ≡ false → 1 ≤ room)
-    → let p = if is_full then unmet_at id (Some line) TooMany else met_at id line condition None in
+    → let p = if is_full then unmet_at id (Some line) TooMany else met_at id line options None in
     length (verified_lines (p ∷ others (room_after room p))) ≤ room
-one_found true id room line condition others few some = few room
-one_found false id room line condition others few some =
+one_found true id room line options others few some = few room
+one_found false id room line options others few some =
     one_more line (verified_lines (others (room - 1))) room (some refl) (few (room - 1))
 
-one_label : (id room : ℕ) (line : Option ℕ) (condition : Option Text) (objection : Option BreakpointNote)
+one_label : (id room : ℕ) (line : Option ℕ) (options : BreakpointOptions) (objection : Option BreakpointNote)
     (others : ℕ → List PlacedBreakpoint)
     → ((r : ℕ) → length (verified_lines (others r)) ≤ r)
     → let p = label_point id room (record {
       line = line;
-      condition = condition;
+      options = options;
       objection = objection;
     }) in
     length (verified_lines (p ∷ others (room_after room p))) ≤ room
-one_label id room line condition (Some why) others few = few room
-one_label id room None condition None others few = few room
-one_label id room (Some line) condition None others few =
-    one_found (room == 0) id room line condition others few (has_room room)
+one_label id room line options (Some why) others few = few room
+one_label id room None options None others few = few room
+one_label id room (Some line) options None others few =
+    one_found (room == 0) id room line options others few (has_room room)
 
 few_labels : (room index : ℕ) (ls : List FoundLabel)
     → length (verified_lines (label_points room index ls)) ≤ room
 few_labels room index [] = omega arith
 few_labels room index (l ∷ ls) =
-    one_label (id_at 0 index) room l.line l.condition l.objection (λ r. label_points r (index + 1) ls)
+    one_label (id_at 0 index) room l.line l.options l.objection (λ r. label_points r (index + 1) ls)
     (λ r. few_labels r (index + 1) ls)
 
--- those without a condition are some of them
-fewer_plain : (condition : Option Text) (line : Option ℕ) (plain verified : List ℕ)
+-- those without options are some of them
+fewer_plain : (is_plain : Bool) (line : Option ℕ) (plain verified : List ℕ)
     → length plain ≤ length verified
-    → length (cons_option (if is_none condition then line else None) plain)
-    ≤ length (cons_option line verified)
-fewer_plain None None plain verified fewer = fewer
-fewer_plain None (Some line) plain verified fewer = omega (arith, fewer)
-fewer_plain (Some condition) None plain verified fewer = fewer
-fewer_plain (Some condition) (Some line) plain verified fewer = omega (arith, fewer)
+    → length (cons_option (if is_plain then line else None) plain) ≤ length (cons_option line verified)
+fewer_plain true None plain verified fewer = fewer
+fewer_plain true (Some line) plain verified fewer = omega (arith, fewer)
+fewer_plain false None plain verified fewer = fewer
+fewer_plain false (Some line) plain verified fewer = omega (arith, fewer)
 
 few_plain : (ps : List PlacedBreakpoint) → length (plain_lines ps) ≤ length (verified_lines ps)
 few_plain [] = omega arith
 few_plain (p ∷ ps) =
-    fewer_plain p.condition (verified_line p) (plain_lines ps) (verified_lines ps) (few_plain ps)
+    fewer_plain (is_plain p.options) (verified_line p) (plain_lines ps) (verified_lines ps) (few_plain ps)
 
 pub few_wanted : (number : ℕ) (ls : List LandedLine) (labels : List FoundLabel) → length ls ≤ 256
     → let lines = line_points number 0 ls in
@@ -125,18 +124,18 @@ has_line (q ∷ ps) p line has is =
     (λ has_later. later (plain_line q) (plain_lines ps) line (has_line ps p line has_later is))
     (Contains-append_cases (q ∷ []) ps p has)
 
-line_of : (is_verified : Bool) (condition : Option Text) (found : Option ℕ) (line : ℕ)
-    → is_verified ≡ true → condition ≡ None → found ≡ Some line
-    → (if is_none condition then (if is_verified then found else None) else None) ≡ Some line
-line_of true None found line verified plain is = is
-line_of true (Some condition) found line verified plain is = absurd cc
-line_of false condition found line verified plain is = absurd cc
+line_of : (is_verified is_plain : Bool) (found : Option ℕ) (line : ℕ)
+    → is_verified ≡ true → is_plain ≡ true → found ≡ Some line
+    → (if is_plain then (if is_verified then found else None) else None) ≡ Some line
+line_of true true found line verified plain is = is
+line_of true false found line verified plain is = absurd cc
+line_of false is_plain found line verified plain is = absurd cc
 
 pub verified_is_wanted : (lines labels : List PlacedBreakpoint) (p : PlacedBreakpoint) (line : ℕ)
-    → Contains (lines ++ labels) p → p.is_verified ≡ true → p.condition ≡ None → p.line ≡ Some line
+    → Contains (lines ++ labels) p → p.is_verified ≡ true → is_plain p.options ≡ true → p.line ≡ Some line
     → Contains (wanted_lines lines labels) line
 verified_is_wanted lines labels p line has verified plain is =
-    let here = line_of p.is_verified p.condition p.line line verified plain is in
+    let here = line_of p.is_verified (is_plain p.options) p.line line verified plain is in
     ⊎_elim
     (λ on_line. Contains-append_left (plain_lines lines) (plain_lines labels) line
     (has_line lines p line on_line here))

@@ -1,6 +1,7 @@
 -- The lines at which a board stops.
-use Rattle.std.specs.Prelude.{ℕ, ◌-◌, List, ◌++◌, length, Option, None, is_none, if◌then◌else◌}
+use Rattle.std.specs.Prelude.{ℕ, ◌-◌, List, ◌++◌, length, Bool, ◌&&◌, Option, None, is_none, if◌then◌else◌}
 use Rattle.std.specs.List.{filter_map}
+use Rattle.dap_messages.specs.declared.message.BreakpointOptions.{BreakpointOptions}
 use Rattle.dap_messages.specs.declared.message.PlacedBreakpoint.{PlacedBreakpoint}
 
 -- the line of a verified breakpoint
@@ -14,9 +15,13 @@ verified_lines points = filter_map verified_line points
 abbrev pub room_behind : List PlacedBreakpoint → ℕ
 room_behind lines = 256 - length (verified_lines lines)
 
--- A board stops only at breakpoints without a condition.
+-- without a condition and a log message
+abbrev pub is_plain : BreakpointOptions → Bool
+is_plain o = is_none o.condition && is_none o.log_message
+
+-- A board stops only at breakpoints without options.
 abbrev pub plain_line : PlacedBreakpoint → Option ℕ
-plain_line p = if is_none p.condition then verified_line p else None
+plain_line p = if is_plain p.options then verified_line p else None
 
 abbrev pub plain_lines : List PlacedBreakpoint → List ℕ
 plain_lines points = filter_map plain_line points

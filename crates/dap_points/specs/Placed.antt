@@ -2,11 +2,11 @@
 -- Protocol, "Breakpoint").
 use Rattle.std.specs.Prelude.{ℕ, ◌+◌, ◌*◌, ◌-◌, ◌==◌, List, [], ◌∷◌, Bool, true, false, if◌then◌else◌}
 use Rattle.std.specs.Prelude.{Option, Some, None}
-use Rattle.base_text.specs.Bytes.{Text}
 use Rattle.dap_editor.specs.declared.request.LineBreakpoint.{LineBreakpoint}
 use Rattle.dap_editor.specs.declared.request.FunctionBreakpoint.{FunctionBreakpoint}
 use Rattle.dap_messages.specs.declared.message.BreakpointNote.{BreakpointNote}
 use Rattle.dap_messages.specs.declared.message.BreakpointNote.TheVariants as note
+use Rattle.dap_messages.specs.declared.message.BreakpointOptions.{BreakpointOptions}
 use Rattle.dap_messages.specs.declared.message.PlacedBreakpoint.{PlacedBreakpoint}
 use Rattle.dap_points.specs.declared.placed.LandedLine.{LandedLine}
 use Rattle.dap_points.specs.declared.placed.FoundLabel.{FoundLabel}
@@ -16,14 +16,17 @@ abbrev pub id_at : ℕ → ℕ → ℕ
 id_at number index = 256 * number + (index + 1)
 
 -- it is met on this line
-abbrev pub met_at : ℕ → ℕ → Option Text → Option BreakpointNote → PlacedBreakpoint
-met_at id line condition n =
-    record { id = id; line = Some line; condition = condition; is_verified = true; note = n }
+abbrev pub met_at : ℕ → ℕ → BreakpointOptions → Option BreakpointNote → PlacedBreakpoint
+met_at id line options n =
+    record { id = id; line = Some line; options = options; is_verified = true; note = n }
+
+abbrev pub no_options : BreakpointOptions
+no_options = record { condition = None; log_message = None }
 
 -- it is never met
 abbrev pub unmet_at : ℕ → Option ℕ → BreakpointNote → PlacedBreakpoint
 unmet_at id line why =
-    record { id = id; line = line; condition = None; is_verified = false; note = Some why }
+    record { id = id; line = line; options = no_options; is_verified = false; note = Some why }
 
 -- ---- on lines of the program
 
@@ -33,7 +36,7 @@ moved_note from line = if from == line then None else Some (note.Moved from)
 -- at the first line with code at or below its own
 abbrev pub landed_point : ℕ → LandedLine → Option ℕ → PlacedBreakpoint
 landed_point id l None = unmet_at id (Some l.line) (note.NoCode l.line)
-landed_point id l (Some landing) = met_at id landing l.condition (moved_note l.line landing)
+landed_point id l (Some landing) = met_at id landing l.options (moved_note l.line landing)
 
 -- unless there is something to object to it
 abbrev pub line_point_unless : Option BreakpointNote → ℕ → LandedLine → PlacedBreakpoint
@@ -64,14 +67,14 @@ other_points why number index (b ∷ bs) =
 -- ---- at labels
 
 -- with room for so many, at a label on this line, if the program has it
-abbrev pub at_label : ℕ → ℕ → Option Text → Option ℕ → PlacedBreakpoint
-at_label id room condition None = unmet_at id None note.NoLabel
-at_label id room condition (Some line) =
-    if room == 0 then unmet_at id (Some line) note.TooMany else met_at id line condition None
+abbrev pub at_label : ℕ → ℕ → BreakpointOptions → Option ℕ → PlacedBreakpoint
+at_label id room options None = unmet_at id None note.NoLabel
+at_label id room options (Some line) =
+    if room == 0 then unmet_at id (Some line) note.TooMany else met_at id line options None
 
 -- unless there is something to object to it
 abbrev pub label_point_unless : Option BreakpointNote → ℕ → ℕ → FoundLabel → PlacedBreakpoint
-label_point_unless None id room l = at_label id room l.condition l.line
+label_point_unless None id room l = at_label id room l.options l.line
 label_point_unless (Some why) id room l = unmet_at id l.line why
 
 abbrev pub label_point : ℕ → ℕ → FoundLabel → PlacedBreakpoint

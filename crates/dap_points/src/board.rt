@@ -1,11 +1,11 @@
 //! The lines at which a board stops.
 ghost use Rattle.std.specs.Prelude.{◌≡◌, ◌≤◌, ◌++◌, length, IfOk, OnOk, option_to_list};
-ghost use Rattle.dap_points.specs.Boards.{verified_line, verified_lines, room_behind, plain_line};
+ghost use Rattle.dap_points.specs.Boards.{verified_line, verified_lines, room_behind, is_plain, plain_line};
 ghost use Rattle.dap_points.specs.Boards.{plain_lines, wanted_lines};
 
 use crate::points::MOST_POINTS;
 use base_text::sequence::Sequence;
-use dap_messages::message::PlacedBreakpoint;
+use dap_messages::message::{BreakpointOptions, PlacedBreakpoint};
 use std::alloc::{AllocError, Global};
 
 fn verified_line(point: &PlacedBreakpoint) -> Option<u32>
@@ -14,10 +14,17 @@ fn verified_line(point: &PlacedBreakpoint) -> Option<u32>
     if point.is_verified { point.line } else { None }
 }
 
+/// Whether a breakpoint has neither a condition nor a log message.
+pub fn is_plain(options: &BreakpointOptions) -> bool
+    ensures { result ≡ is_plain options.now }
+{
+    options.condition.is_none() && options.log_message.is_none()
+}
+
 fn plain_line(point: &PlacedBreakpoint) -> Option<u32>
     ensures { result ≡ plain_line point.now }
 {
-    if point.condition.is_none() {
+    if is_plain(&point.options) {
         verified_line(point)
     } else {
         None
@@ -65,7 +72,7 @@ pub fn room_behind(alloc: Global, lines: &[PlacedBreakpoint]) -> Result<usize, A
     Ok(MOST_POINTS.saturating_sub(verified.len()))
 }
 
-/// The lines at which a board stops: of verified breakpoints without conditions, first those on lines.
+/// The lines at which a board stops: of verified breakpoints without options, first those on lines.
 pub fn wanted_lines(
     alloc: Global,
     lines: &[PlacedBreakpoint],

@@ -40,11 +40,11 @@ fn copy_point(point: &PlacedBreakpoint) -> Result<PlacedBreakpoint, AllocError>
     ensures { IfOk result (λ copy. copy ≡ point.now) }
 {
     let note = point.note.clone()?;
-    let condition = point.condition.clone()?;
+    let options = point.options.clone()?;
     Ok(PlacedBreakpoint {
         id: point.id,
         line: point.line,
-        condition,
+        options,
         is_verified: point.is_verified,
         note,
     })

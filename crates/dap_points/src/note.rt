@@ -14,7 +14,7 @@ pub fn is_same_note(first: &BreakpointNote, second: &BreakpointNote) -> bool
         (BreakpointNote::OtherProgram(a), BreakpointNote::OtherProgram(b)) => {
             a.as_str() == b.as_str()
         }
-        (BreakpointNote::Condition(a), BreakpointNote::Condition(b)) => a.as_str() == b.as_str(),
+        (BreakpointNote::Wrong(a), BreakpointNote::Wrong(b)) => a.as_str() == b.as_str(),
         (BreakpointNote::NotLaunched, BreakpointNote::NotLaunched)
         | (BreakpointNote::NotSupported, BreakpointNote::NotSupported)
         | (BreakpointNote::NoLabel, BreakpointNote::NoLabel)

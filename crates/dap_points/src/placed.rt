@@ -6,16 +6,15 @@ ghost use Rattle.dap_points.specs.Placed.{why_unmet, other_points, at_label, lab
 ghost use Rattle.dap_points.specs.Placed.{room_after, label_points, unlaunched_labels};
 
 use base_text::sequence::Sequence;
-use base_text::text::Text;
 use dap_editor::request::{FunctionBreakpoint, LineBreakpoint};
-use dap_messages::message::{BreakpointNote, PlacedBreakpoint};
+use dap_messages::message::{BreakpointNote, BreakpointOptions, PlacedBreakpoint};
 use std::alloc::{AllocError, Global};
 
 /// A breakpoint on a line of the program, and the first line with code at or below it, if there is one.
 #[derive(Drop)]
 pub struct LandedLine {
     pub line: u32,
-    pub condition: Option<Text>,
+    pub options: BreakpointOptions,
     /// What there is to object to it, wherever it lands.
     pub objection: Option<BreakpointNote>,
     pub landing: Option<u32>,
@@ -25,10 +24,16 @@ pub struct LandedLine {
 #[derive(Drop)]
 pub struct FoundLabel {
     pub line: Option<u32>,
-    pub condition: Option<Text>,
+    pub options: BreakpointOptions,
     /// What there is to object to it, wherever the label is.
     pub objection: Option<BreakpointNote>,
 }
+
+/// Of a breakpoint that is never met.
+const NO_OPTIONS: BreakpointOptions = BreakpointOptions {
+    condition: None,
+    log_message: None,
+};
 
 fn id_at(number: u32, index: usize) -> u32
     requires number { number ≤ 1025 }
@@ -42,15 +47,15 @@ fn id_at(number: u32, index: usize) -> u32
 fn met_at(
     id: u32,
     line: u32,
-    condition: Option<Text>,
+    options: BreakpointOptions,
     note: Option<BreakpointNote>,
 ) -> PlacedBreakpoint
-    ensures { result ≡ met_at id line condition note }
+    ensures { result ≡ met_at id line options note }
 {
     PlacedBreakpoint {
         id,
         line: Some(line),
-        condition,
+        options,
         is_verified: true,
         note,
     }
@@ -63,7 +68,7 @@ fn unmet_at(id: u32, line: Option<u32>, why: BreakpointNote) -> PlacedBreakpoint
     PlacedBreakpoint {
         id,
         line,
-        condition: None,
+        options: NO_OPTIONS,
         is_verified: false,
         note: Some(why),
     }
@@ -86,8 +91,8 @@ fn landed_point(id: u32, landed: &LandedLine) -> Result<PlacedBreakpoint, AllocE
     match landed.landing {
         None => Ok(unmet_at(id, Some(line), BreakpointNote::NoCode { line })),
         Some(landing) => {
-            let condition = landed.condition.clone()?;
-            Ok(met_at(id, landing, condition, moved_note(line, landing)))
+            let options = landed.options.clone()?;
+            Ok(met_at(id, landing, options, moved_note(line, landing)))
         }
     }
 }
@@ -159,15 +164,15 @@ pub fn other_points(
 fn at_label(
     id: u32,
     room: usize,
-    condition: &Option<Text>,
+    options: &BreakpointOptions,
     line: Option<u32>,
 ) -> Result<PlacedBreakpoint, AllocError>
-    ensures { IfOk result (λ point. point ≡ at_label id room condition.now line) }
+    ensures { IfOk result (λ point. point ≡ at_label id room options.now line) }
 {
     match line {
         None => Ok(unmet_at(id, None, BreakpointNote::NoLabel)),
         Some(line) if room == 0 => Ok(unmet_at(id, Some(line), BreakpointNote::TooMany)),
-        Some(line) => Ok(met_at(id, line, condition.clone()?, None)),
+        Some(line) => Ok(met_at(id, line, options.clone()?, None)),
     }
 }
 
@@ -175,7 +180,7 @@ fn label_point(id: u32, room: usize, label: &FoundLabel) -> Result<PlacedBreakpo
     ensures { IfOk result (λ point. point ≡ label_point id room label.now) }
 {
     match &label.objection {
-        None => at_label(id, room, &label.condition, label.line),
+        None => at_label(id, room, &label.options, label.line),
         Some(why) => Ok(unmet_at(id, label.line, why.clone()?)),
     }
 }

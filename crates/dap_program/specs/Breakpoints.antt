@@ -24,8 +24,8 @@ label_line b name = option_map (λ at. at.line) (line_of_label b name)
 abbrev pub found_label : Board → FunctionBreakpoint → FoundLabel
 found_label b f = record {
   line = label_line b f.name;
-  condition = f.condition;
-  objection = objection b f.condition f.is_plain;
+  options = f.options;
+  objection = objection b f.options f.is_plain;
 }
 
 -- at labels, beside the breakpoints on lines

@@ -1,7 +1,9 @@
 -- A slice of a program's run, and the messages about it.
 use Rattle.std.specs.Prelude.{◌≡◌, ℕ, List, [], ◌∷◌, ◌++◌, length, Bool, false, not, ◌&&◌, ◌||◌, ◌==◌}
 use Rattle.std.specs.Prelude.{None, codes}
-use Rattle.std.specs.Prelude.{if◌then◌else◌}
+use Rattle.std.specs.Prelude.{if◌then◌else◌, map, Result, IfOk}
+use Rattle.std.specs.declared.alloc.AllocError.{AllocError}
+use Rattle.lab_core.specs.declared.run_state.RunState.TheVariants.{Running}
 use Rattle.std.specs.List.{filter_map, list_all, list_any}
 use Rattle.base_text.specs.Bytes.{Bytes}
 use Rattle.base_text.specs.Hexadecimal.{upper_byte, upper_word}
@@ -21,6 +23,10 @@ use Rattle.dap_messages.specs.declared.message.EditorEvent.TheVariants as event
 use Rattle.dap_messages.specs.declared.message.EditorStop.TheVariants.{Board as AtBoard}
 use Rattle.dap_messages.specs.declared.message.OutputCategory.{OutputCategory}
 use Rattle.dap_messages.specs.declared.message.OutputCategory.TheVariants as category
+use Rattle.dap_slice.specs.declared.conditions.ConditionalBreakpoint.{ConditionalBreakpoint}
+use Rattle.dap_slice.specs.declared.logs.LogLine.{LogLine}
+use Rattle.dap_slice.specs.Logs.{logs_before}
+use Rattle.dap_slice.specs.SliceEnds.{slice_end_within}
 use Rattle.dap_editor.specs.declared.request.ExceptionFilters.{ExceptionFilters}
 use Rattle.dap_program.specs.declared.slice.Slice.{Slice}
 use Rattle.dap_program.specs.declared.end.EndPolicy.{EndPolicy}
@@ -85,20 +91,48 @@ outcome_events held outcome.Waiting = []
 outcome_events held (outcome.Stop s) = event.Stopped (AtBoard (reason_of s)) ∷ []
 outcome_events held (outcome.End e) = run_end_events (policy_at held e) e
 
--- the events of a slice with these port operations and this outcome, which may ask for a line
-abbrev pub slice_events : ExceptionFilters → Bool → List PortOperation → SliceOutcome → List EditorEvent
-slice_events held asks traffic ending =
+-- what the program does in a slice with these port operations and this outcome, which may ask for a line
+abbrev pub run_events : ExceptionFilters → Bool → List PortOperation → SliceOutcome → List EditorEvent
+run_events held asks traffic ending =
     console_events (filter_map written_to_console traffic) ++ (line_events asks ++ outcome_events held ending)
+
+abbrev pub log_event : LogLine → EditorEvent
+log_event l = event.Log l.text (record { path = l.path; line = l.line; column = 1 })
+
+abbrev pub log_events : List LogLine → List EditorEvent
+log_events logs = map log_event logs
+
+-- the events of a slice that begins with these log messages
+abbrev pub slice_events : List LogLine → ExceptionFilters → Bool → List PortOperation → SliceOutcome
+    → List EditorEvent
+slice_events logs held asks traffic ending = log_events logs ++ run_events held asks traffic ending
 
 -- ---- the slice
 
--- What a slice that ends there and so is on a board, by the ends at which the run is held, and by whether a
--- line was asked for.
-pub record IsSliceOf (end : ℕ × SliceOutcome) (held : ExceptionFilters) (has_asked : Bool) (b : Board)
-    (s : Slice) (lab : LabState) : Type 0 where
+-- what is known before a slice: the breakpoints with options, the ends at which the run is held, and whether
+-- a line was asked for
+pub record SliceContext : Type 0 where
+  pub points : List ConditionalBreakpoint
+  pub held : ExceptionFilters
+  pub has_asked : Bool
+
+-- the events of a slice from a board that ends there and so
+abbrev pub events_to : ℕ × SliceOutcome → SliceContext → Board → List EditorEvent
+events_to end c b =
+    let traffic = traffic_of end.0 b in
+    slice_events (logs_before c.points end.0 b) c.held (asks_line c.has_asked end.0 traffic) traffic end.1
+
+-- what such a slice is on a board
+pub record IsSliceOf (end : ℕ × SliceOutcome) (c : SliceContext) (b : Board) (s : Slice) (lab : LabState)
+    : Type 0 where
   pub executed : s.executed ≡ end.0
-  pub asks : s.asks_line ≡ asks_line has_asked end.0 (traffic_of end.0 b)
-  pub messages : s.messages ≡ as_messages (slice_events held (asks_line has_asked end.0 (traffic_of end.0 b))
-      (traffic_of end.0 b) end.1)
+  pub asks : s.asks_line ≡ asks_line c.has_asked end.0 (traffic_of end.0 b)
+  pub messages : s.messages ≡ as_messages (events_to end c b)
   pub outcome : s.outcome ≡ end.1
-  pub represents : RepresentsBoard lab (held_at_end held end.1 (left_by end.1 (after_steps end.0 b)))
+  pub represents : RepresentsBoard lab (held_at_end c.held end.1 (left_by end.1 (after_steps end.0 b)))
+
+-- so is a slice of at most n steps of each board that the lab represents, if the run goes on there
+abbrev pub MakesSliceIn : SliceContext → ℕ → LabState → Result Slice AllocError → LabState → Type 0
+MakesSliceIn c n old result new =
+    (b : Board) → RepresentsBoard old b → b.run ≡ Running
+    → IfOk result (λ slice. IsSliceOf (slice_end_within c.points n b) c b slice new)

@@ -54,11 +54,11 @@ fn find_label(
         → IfOk result (λ label. label ≡ found_label b function.now) }
 {
     let line = label_line(alloc, lab, function.name.as_str())?;
-    let objection = objection(alloc, lab, &function.condition, function.is_plain)?;
-    let condition = function.condition.clone()?;
+    let objection = objection(alloc, lab, &function.options, function.is_plain)?;
+    let options = function.options.clone()?;
     Ok(FoundLabel {
         line,
-        condition,
+        options,
         objection,
     })
 }

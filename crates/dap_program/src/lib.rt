@@ -11,6 +11,7 @@ pub mod change;
 pub mod end;
 pub mod failure;
 pub mod load;
+mod logs;
 pub mod memory;
 pub mod messages;
 pub mod opening;

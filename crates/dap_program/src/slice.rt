@@ -1,6 +1,6 @@
 //! Slices of a run.
 ghost use Rattle.std.specs.Prelude.{◌≡◌, ◌<◌, ◌≤◌, ◌+◌, ◌++◌, length, IfOk, OnErr, vec_capacity};
-ghost use Rattle.std.specs.Prelude.{vec_len, codes};
+ghost use Rattle.std.specs.Prelude.{vec_len, codes, nat_lt, [], if◌then◌else◌};
 ghost use Rattle.std.specs.List.{list_all};
 ghost use Rattle.base_text.specs.Hexadecimal.{upper_digit, upper_byte};
 ghost use Rattle.lab_core.specs.declared.run_state.RunState.TheVariants.{Running};
@@ -11,12 +11,13 @@ ghost use Rattle.dap_program.specs.Messages.{as_messages};
 ghost use Rattle.dap_program.specs.Slices as slices;
 ghost use Rattle.dap_program.specs.Slices.{console_events, line_question, line_events, run_end_events};
 ghost use Rattle.dap_program.specs.Slices.{undefined_line, exception_events, policy_events};
-ghost use Rattle.dap_program.specs.Slices.{outcome_events, slice_events, IsSliceOf, is_vain_read};
+ghost use Rattle.dap_program.specs.Slices.{outcome_events, run_events, MakesSliceIn, is_vain_read};
 ghost use Rattle.dap_program.specs.Slices.{polls_in_vain, asks_line};
-ghost use Rattle.dap_program.specs.Kits.{IsSliceKit};
+ghost use Rattle.dap_program.specs.Kits.{IsSliceKit, HasRoomBehind};
 ghost use Rattle.dap_slice.specs.SliceEnds.{slice_end_within};
 
 use crate::end::{EndPolicy, exit_code, hold_at_end, policy_at, stop_at};
+use crate::logs::{log_messages, with_more};
 use crate::messages::Messages;
 use base_text::sequence::{Bytes, Sequence};
 use dap_board::names::reason_of;
@@ -262,7 +263,8 @@ impl SliceKit {
     ) -> Sequence<Message>
         requires kit { IsSliceKit self }
         requires few { length traffic.now ≤ 4096 }
-        ensures { result ≡ as_messages (slice_events held asks traffic.now outcome) }
+        ensures told { result ≡ as_messages (run_events held asks traffic.now outcome) }
+        ensures few { length result ≤ 8 }
     {
         let SliceKit {
             mut messages,
@@ -280,10 +282,23 @@ impl SliceKit {
 
 // ---- the slice
 
+// What breakpoints told before the first step, if there was one, and the messages of the run.
+fn told_after(logs: Vec<Message>, executed: u16, messages: Sequence<Message>) -> Sequence<Message>
+    requires room { HasRoomBehind logs.items (vec_capacity logs) }
+    requires few { length messages ≤ 8 }
+    ensures { result ≡ (if nat_lt 0 executed then logs.items else []) ++ messages }
+{
+    if executed == 0 {
+        drop(logs);
+        return messages;
+    }
+    with_more(logs, messages)
+}
+
 /// Makes at most `limit` steps of the run on a board, from 1 to 4,096, and returns the messages about them.
-/// It ends where the run comes to one of `points`. `held` says at which ends the run is held, `has_asked`
-/// whether the program asked for a line since the last one was typed. If no run goes on, it fails like out of
-/// memory. If it fails, the board stays as it was.
+/// It ends where the run comes to one of `points`, and tells first what those at PC tell. `held` says at
+/// which ends the run is held, `has_asked` whether the program asked for a line since the last one was typed.
+/// If no run goes on, it fails like out of memory. If it fails, the board stays as it was.
 pub fn make_slice(
     alloc: Global,
     lab: &mut Lab,
@@ -293,10 +308,12 @@ pub fn make_slice(
     has_asked: bool,
 ) -> Result<Slice, AllocError>
     requires { (1 ≤ limit) × (limit ≤ 4096) × RepresentsSomeBoard lab.old }
-    ensures made { (b : Board) → RepresentsBoard lab.old b → b.run ≡ Running → IfOk result
-        (λ slice. IsSliceOf (slice_end_within points.old limit b) held has_asked b slice lab.new) }
+    ensures made { MakesSliceIn (record { points = points.old; held = held; has_asked = has_asked }) limit
+        lab.old result lab.new }
     ensures rest { (points.new ≡ points.old) × OnErr result (lab.new ≡ lab.old) }
 {
+    let lines = points.logs(alloc, lab)?;
+    let logs = log_messages(alloc, lines)?;
     let kit = slice_kit(alloc)?;
     match points.slice(lab, limit) {
         Ok(
@@ -310,7 +327,7 @@ pub fn make_slice(
             let messages = kit.tell(held, asks_line, traffic.as_slice(), outcome);
             hold_at_end(lab, held, outcome);
             Ok(Slice {
-                messages,
+                messages: told_after(logs, executed, messages),
                 executed,
                 asks_line,
                 outcome,
@@ -318,6 +335,7 @@ pub fn make_slice(
         }
         Err(_) => {
             drop(kit);
+            drop(logs);
             Err(AllocError)
         }
     }

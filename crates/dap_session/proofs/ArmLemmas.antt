@@ -15,11 +15,11 @@ use Rattle.dap_session.specs.Breakpoints.{program_at, armed_where, lines_armed, 
 use Rattle.dap_session.specs.Breakpoints.{conditional_where, lines_conditional, labels_conditional}
 use Rattle.dap_session.specs.Represents.{SessionFields, RepresentsSession}
 
--- The lab stops on these lines and at these labels of the program, and these points have conditions.
+-- The lab stops on these lines and at these labels of the program, and these points have options.
 abbrev pub Arms : List ConditionalBreakpoint → LabState → LabState → Program → ℕ → List LineBreakpoint
     → List FunctionBreakpoint → Type 0
 Arms points old new program number lines functions = (b : Board) → RepresentsBoard old b
-    → (points ≡ conditional_with number lines functions b)
+    → (points ≡ conditional_with program number lines functions b)
     × RepresentsBoard new (armed_with program number lines functions b)
 
 pub stands_lines : (l : SourceLines) (points : List ConditionalBreakpoint) (old : SessionFields)
@@ -34,7 +34,8 @@ stands_lines l points old new program number lines functions s represents at n l
     let b = s.board in
     let kept = old.settings.points in
     let A : ℕ → List LineBreakpoint → List FunctionBreakpoint → Type 0 =
-    λ n ls fs. (points ≡ conditional_with n ls fs b) × RepresentsBoard new (armed_with program n ls fs b) in
+    λ n ls fs. (points ≡ conditional_with program n ls fs b)
+    × RepresentsBoard new (armed_with program n ls fs b) in
     let armed : A (number_of l.path kept.lists) (take 256 l.lines) (take 256 kept.functions) =
     subst (λ n. A n (take 256 l.lines) (take 256 kept.functions)) n
     (subst (λ ls. A number ls (take 256 kept.functions)) ls
@@ -63,7 +64,7 @@ stands_labels points old new program number lines functions s represents at n ls
     let b = s.board in
     let kept = old.settings.points in
     let path = program.launch.program in
-    let A : ℕ → List LineBreakpoint → Type 0 = λ n ls. (points ≡ conditional_with n ls functions b)
+    let A : ℕ → List LineBreakpoint → Type 0 = λ n ls. (points ≡ conditional_with program n ls functions b)
     × RepresentsBoard new (armed_with program n ls functions b) in
     let armed : A (number_of path kept.lists) (lines_at path kept.lists) =
     subst (λ n. A n (lines_at path kept.lists)) n (subst (λ ls. A number ls) ls (arms b represents.board)) in

@@ -19,7 +19,8 @@ use Rattle.dap_program.specs.declared.end.EndPolicy.TheVariants.{Exit, Hold}
 use Rattle.dap_program.specs.declared.messages.FollowUp.TheVariants as follow
 use Rattle.dap_program.specs.Ends.{exit_code, policy_at, left_at_end}
 use Rattle.dap_program.specs.Messages.{as_messages, end_events, events_of}
-use Rattle.dap_program.specs.Slices.{console_events, line_events, exception_events, policy_events}
+use Rattle.dap_program.specs.Slices.{log_events, console_events, line_events, exception_events, policy_events}
+use Rattle.dap_slice.specs.Logs.{logs_before}
 use Rattle.dap_program.specs.Slices.{asks_line}
 use Rattle.dap_program.proofs.SliceLemmas.{told-append}
 use Rattle.dap_launch.specs.declared.program.Program.{Program}
@@ -77,6 +78,15 @@ told_last first second third last =
     ∙ ap (λ rest. first ++ rest) (append_assoc second third last)))
     ∙ told-append (first ++ (second ++ third)) last
 
+-- and with others before them
+told_behind : (first front last all : List EditorEvent)
+    → as_messages all ≡ as_messages front ++ as_messages last
+    → as_messages (first ++ all) ≡ (as_messages first ++ as_messages front) ++ as_messages last
+told_behind first front last all is =
+    told-append first all
+    ∙ (ap (λ rest. as_messages first ++ rest) is
+    ∙ sym (append_assoc (as_messages first) (as_messages front) (as_messages last)))
+
 ended_by : (k : ℕ) (how : End) (s : SessionState) → s.settings.is_initialized ≡ true
     → EndIsTold how s (left_by (outcome.End how) (after_steps k s.board)) (slicing (k, outcome.End how) s)
 ended_by k how s initialized =
@@ -84,10 +94,13 @@ ended_by k how s initialized =
     let b = left_by (outcome.End how) (after_steps k s.board) in
     let console = console_events (filter_map written_to_console (traffic_of k s.board)) in
     let line = line_events (asks_line s.settings.has_asked k (traffic_of k s.board)) in
+    let logs = log_events (logs_before s.settings.conditional k s.board) in
+    let front = console ++ (line ++ exception_events how) in
     record {
       parts = same_left policy b;
-      before = as_messages (console ++ (line ++ exception_events how));
-      told = told_last console line (exception_events how) (policy_events policy how);
+      before = as_messages logs ++ as_messages front;
+      told = told_behind logs front (policy_events policy how) _
+          (told_last console line (exception_events how) (policy_events policy how));
       later = λ is.
           continued how (slicing (k, outcome.End how) s).state initialized
           (end_held s.settings.filters s.settings.program how is) (stopped_left policy b is);

@@ -38,7 +38,9 @@ use Rattle.dap_messages.specs.declared.message.EditorEvent.TheVariants as unaske
 use Rattle.dap_program.specs.Messages.{as_messages, event_if, events_of}
 use Rattle.dap_session.specs.Slices.{slice_end_in}
 use Rattle.i80_devs.specs.Console.{written_to_console}
-use Rattle.dap_program.specs.Slices.{slice_events, console_events, line_events, outcome_events}
+use Rattle.dap_slice.specs.declared.logs.LogLine.{LogLine}
+use Rattle.dap_slice.specs.Logs.{logs_before}
+use Rattle.dap_program.specs.Slices.{events_to, log_events, console_events, line_events, outcome_events}
 use Rattle.dap_program.specs.Slices.{run_end_events, asks_line}
 use Rattle.dap_program.proofs.SliceLemmas.{told-append}
 use Rattle.dap_launch.specs.declared.file.FileText.{FileText}
@@ -56,7 +58,8 @@ use Rattle.dap_launch.specs.Points.{all_changed}
 use Rattle.dap_session.specs.Launches.{started_follow, by_text, loading, loading_as, launching_over}
 use Rattle.dap_session.specs.Launches.{restarting_of}
 use Rattle.dap_session.specs.Requests.{objection, asking, asking_unless, replying, turn}
-use Rattle.dap_session.specs.Slices.{Input, request, slice, caller_of, slicing, slice_told, step, play_all}
+use Rattle.dap_session.specs.Slices.{Input, request, slice, caller_of, context_of, slicing, slice_told, step}
+use Rattle.dap_session.specs.Slices.{play_all}
 use Rattle.dap_session.specs.Laws.{caller_in, callers_answered, request_in, callers_asking, stdout_in}
 use Rattle.dap_session.specs.Laws.{console_of, written_in, written_by, all_written}
 
@@ -68,9 +71,7 @@ callers_answered-told (e ∷ es) = callers_answered-told es
 
 pub answered_slicing : (p : ℕ × SliceOutcome) (s : SessionState) → callers_answered (slicing p
     s).messages ≡ []
-answered_slicing (k, ending) s = callers_answered-told
-    (slice_events (held_ends s.settings.filters s.settings.program)
-    (asks_line s.settings.has_asked k (traffic_of k s.board)) (traffic_of k s.board) ending)
+answered_slicing end s = callers_answered-told (events_to end (context_of s) s.board)
 
 pub answered_sliced : (s : SessionState) → callers_answered (slice_told s).messages ≡ []
 unfolding slice_told
@@ -216,19 +217,31 @@ silent_outcome p outcome.Waiting = refl
 silent_outcome p (outcome.Stop reason) = refl
 silent_outcome p (outcome.End e) = silent_end (policy_at p e) e
 
-shown_events : (bytes : Bytes) (asks : Bool) (p : ExceptionFilters) (o : SliceOutcome)
+shown_run : (bytes : Bytes) (asks : Bool) (p : ExceptionFilters) (o : SliceOutcome)
     → shown (console_events bytes ++ (line_events asks ++ outcome_events p o)) ≡ bytes
-shown_events bytes asks p o =
+shown_run bytes asks p o =
     let rest = line_events asks ++ outcome_events p o in
     let silent : IsSilent rest =
     silent-append (line_events asks) (outcome_events p o) (silent_line asks) (silent_outcome p o) in
     shown-append (console_events bytes) rest
     ∙ (ap (λ xs. xs ++ shown rest) (shown_console bytes) ∙ (ap (λ xs. bytes ++ xs) silent ∙ append-nil bytes))
 
+silent_logs : (ls : List LogLine) → IsSilent (log_events ls)
+silent_logs [] = refl
+silent_logs (l ∷ ls) = silent_logs ls
+
+shown_events : (ls : List LogLine) (bytes : Bytes) (asks : Bool) (p : ExceptionFilters) (o : SliceOutcome)
+    → shown (log_events ls ++ (console_events bytes ++ (line_events asks ++ outcome_events p o))) ≡ bytes
+shown_events ls bytes asks p o =
+    let run = console_events bytes ++ (line_events asks ++ outcome_events p o) in
+    shown-append (log_events ls) run
+    ∙ (ap (λ xs. xs ++ shown run) (silent_logs ls) ∙ shown_run bytes asks p o)
+
 pub shown_slicing : (p : ℕ × SliceOutcome) (s : SessionState)
     → console_of (slicing p s).messages ≡ written_in p s.board
 shown_slicing (k, ending) s =
-    shown_events (filter_map written_to_console (traffic_of k s.board)) _
+    shown_events (logs_before s.settings.conditional k s.board)
+    (filter_map written_to_console (traffic_of k s.board)) _
     (held_ends s.settings.filters s.settings.program) ending
 
 shown_sliced : (s : SessionState) → console_of (slice_told s).messages ≡ written_by slice s

@@ -48,7 +48,8 @@ pub stands_sliced : (points : List ConditionalBreakpoint) (n : ℕ) (held : Exce
     (old : SessionFields) (lab new : LabState) (slice : Slice)
     → lab ≡ old.lab → ((s : SessionState) → RepresentsSession old s → wants_slice s ≡ true)
     → ((b : Board) → RepresentsBoard lab b → b.run ≡ Running
-    → IsSliceOf (slice_end_within points n b) held asked b slice new)
+    → IsSliceOf (slice_end_within points n b)
+    (record { points = points; held = held; has_asked = asked }) b slice new)
     → RepresentsSomeBoard lab → RepresentsSomeBoard new
 stands_sliced points n held asked old lab new slice same wants made (b, represents) =
     let end = slice_end_within points n b in

@@ -32,7 +32,9 @@ use Rattle.dap_editor.specs.declared.request.RequestContent.TheVariants as asked
 use Rattle.dap_editor.specs.declared.request.EditorCommand.{EditorCommand}
 use Rattle.dap_editor.specs.declared.request.EditorCommand.TheVariants as editor
 use Rattle.dap_program.specs.Messages.{as_messages}
-use Rattle.dap_program.specs.Slices.{console_events, line_events, outcome_events, run_end_events}
+use Rattle.dap_program.specs.Slices.{log_events, console_events, line_events, outcome_events, run_end_events}
+use Rattle.dap_slice.specs.declared.logs.LogLine.{LogLine}
+use Rattle.dap_slice.specs.Logs.{logs_before}
 use Rattle.dap_program.specs.Slices.{asks_line}
 use Rattle.dap_messages.specs.declared.message.UndefinedOpcode.{UndefinedOpcode}
 use Rattle.dap_editor.specs.declared.request.Launch.{Launch as LaunchOf}
@@ -196,6 +198,10 @@ calm_console : (bytes : Bytes) → IsCalm (console_events bytes)
 calm_console [] = calm_none
 calm_console (byte ∷ bytes) = record { stops = λ d. refl; ends = refl }
 
+calm_logs : (ls : List LogLine) → IsCalm (log_events ls)
+calm_logs [] = calm_none
+calm_logs (l ∷ ls) = let rest = calm_logs ls in record { stops = λ d. rest.stops d; ends = rest.ends }
+
 calm_line : (b : Bool) → IsCalm (line_events b)
 calm_line true = record { stops = λ d. refl; ends = refl }
 calm_line false = calm_none
@@ -320,10 +326,13 @@ follows_slicing (k, ending) s reached has =
     let asks = asks_line s.settings.has_asked k (traffic_of k s.board) in
     let noted : SessionState = record s { settings = with_question asks s.settings } in
     let last = outcome_events (held_in s) ending in
-    calm_follows (console_events written) (line_events asks ++ last) _ _
+    let logs = logs_before s.settings.conditional k s.board in
+    calm_follows (log_events logs) (console_events written ++ (line_events asks ++ last)) _ _
+    (calm_logs logs)
+    (calm_follows (console_events written) (line_events asks ++ last) _ _
     (calm_console written)
     (calm_follows (line_events asks) last _ _ (calm_line asks)
-    (follows_outcome ending (after_steps k s.board) noted (kept_steps k s.board) reached has))
+    (follows_outcome ending (after_steps k s.board) noted (kept_steps k s.board) reached has)))
 
 pub running_has : (r : RunState) → is_running r ≡ true → has_run r ≡ true
 running_has NoRun is = absurd (true≢false (sym is))

@@ -36,12 +36,13 @@ lines_armed l s =
     (take 256 l.lines) (take 256 kept.functions) s.board)
     s
 
--- those of the program that have conditions; if it isn't this source they stay what they were
+-- those of the program that have options; if it isn't this source they stay what they were
 abbrev pub conditional_where : Option Program → SourceLines → SessionState → List ConditionalBreakpoint
 conditional_where None l s = s.settings.conditional
 conditional_where (Some program) l s =
     let kept = s.settings.points in
-    conditional_with (number_of l.path kept.lists) (take 256 l.lines) (take 256 kept.functions) s.board
+    conditional_with program (number_of l.path kept.lists) (take 256 l.lines) (take 256 kept.functions)
+    s.board
 
 abbrev pub lines_conditional : SourceLines → SessionState → List ConditionalBreakpoint
 lines_conditional l s = conditional_where (program_at l.path s.settings.program) l s
@@ -72,7 +73,7 @@ labels_conditional None functions s = s.settings.conditional
 labels_conditional (Some program) functions s =
     let path = program.launch.program in
     let kept = s.settings.points in
-    conditional_with (number_of path kept.lists) (lines_at path kept.lists) functions s.board
+    conditional_with program (number_of path kept.lists) (lines_at path kept.lists) functions s.board
 
 abbrev pub setting_functions : List FunctionBreakpoint → SessionState → Replied
 setting_functions functions s =

@@ -11,7 +11,7 @@ use Rattle.dap_program.specs.Messages.{as_messages, turn_messages}
 use Rattle.lab_core.specs.Board.{Board}
 use Rattle.dap_slice.specs.SliceEnds.{slice_end_within, after_slice_within}
 use Rattle.dap_program.specs.Ends.{held_at_end}
-use Rattle.dap_program.specs.Slices.{slice_events, asks_line}
+use Rattle.dap_program.specs.Slices.{SliceContext, events_to, asks_line}
 use Rattle.dap_launch.specs.Lives.{held_ends, ended_program}
 use Rattle.dap_launch.specs.declared.file.FileText.{FileText}
 use Rattle.dap_session.specs.declared.settings.SessionSettings.{SessionSettings}
@@ -37,15 +37,21 @@ settings_after (outcome.End how) t = record t { program = option_map (ended_prog
 abbrev pub with_question : Bool → SessionSettings → SessionSettings
 with_question asks t = record t { has_asked = t.has_asked || asks }
 
+abbrev pub context_of : SessionState → SliceContext
+context_of s = record {
+  points = s.settings.conditional;
+  held = held_ends s.settings.filters s.settings.program;
+  has_asked = s.settings.has_asked;
+}
+
 abbrev pub slicing : ℕ × SliceOutcome → SessionState → Told
 slicing (k, ending) s =
-    let held = held_ends s.settings.filters s.settings.program in
-    let traffic = traffic_of k s.board in
-    let asks = asks_line s.settings.has_asked k traffic in
+    let c = context_of s in
+    let asks = asks_line c.has_asked k (traffic_of k s.board) in
     record {
-      messages = as_messages (slice_events held asks traffic ending);
+      messages = as_messages (events_to (k, ending) c s.board);
       state = record {
-        board = held_at_end held ending (left_by ending (after_steps k s.board));
+        board = held_at_end c.held ending (left_by ending (after_steps k s.board));
         settings = settings_after ending (with_question asks s.settings);
       };
     }

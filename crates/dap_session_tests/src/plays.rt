@@ -14,7 +14,7 @@ initialize
     "supportsConfigurationDoneRequest":true,"supportsDisassembleRequest":true,
     "supportsEvaluateForHovers":true,"supportsExceptionInfoRequest":true,
     "supportsFunctionBreakpoints":true,"supportsGotoTargetsRequest":true,
-    "supportsLoadedSourcesRequest":true,"supportsReadMemoryRequest":true,
+    "supportsLoadedSourcesRequest":true,"supportsLogPoints":true,"supportsReadMemoryRequest":true,
     "supportsRestartRequest":true,"supportsSetVariable":true,"supportsStepBack":true,
     "supportsSteppingGranularity":true,"supportsTerminateRequest":true,"supportsWriteMemoryRequest":true}
 initialize
@@ -61,7 +61,7 @@ initialize
     "supportsConfigurationDoneRequest":true,"supportsDisassembleRequest":true,
     "supportsEvaluateForHovers":true,"supportsExceptionInfoRequest":true,
     "supportsFunctionBreakpoints":true,"supportsGotoTargetsRequest":true,
-    "supportsLoadedSourcesRequest":true,"supportsReadMemoryRequest":true,
+    "supportsLoadedSourcesRequest":true,"supportsLogPoints":true,"supportsReadMemoryRequest":true,
     "supportsRestartRequest":true,"supportsSetVariable":true,"supportsStepBack":true,
     "supportsSteppingGranularity":true,"supportsTerminateRequest":true,"supportsWriteMemoryRequest":true}
 configurationDone
@@ -119,7 +119,7 @@ initialize
     "supportsConfigurationDoneRequest":true,"supportsDisassembleRequest":true,
     "supportsEvaluateForHovers":true,"supportsExceptionInfoRequest":true,
     "supportsFunctionBreakpoints":true,"supportsGotoTargetsRequest":true,
-    "supportsLoadedSourcesRequest":true,"supportsReadMemoryRequest":true,
+    "supportsLoadedSourcesRequest":true,"supportsLogPoints":true,"supportsReadMemoryRequest":true,
     "supportsRestartRequest":true,"supportsSetVariable":true,"supportsStepBack":true,
     "supportsSteppingGranularity":true,"supportsTerminateRequest":true,"supportsWriteMemoryRequest":true}
 launch {"program":"count.asm"} < slip
@@ -173,7 +173,7 @@ initialize
     "supportsConfigurationDoneRequest":true,"supportsDisassembleRequest":true,
     "supportsEvaluateForHovers":true,"supportsExceptionInfoRequest":true,
     "supportsFunctionBreakpoints":true,"supportsGotoTargetsRequest":true,
-    "supportsLoadedSourcesRequest":true,"supportsReadMemoryRequest":true,
+    "supportsLoadedSourcesRequest":true,"supportsLogPoints":true,"supportsReadMemoryRequest":true,
     "supportsRestartRequest":true,"supportsSetVariable":true,"supportsStepBack":true,
     "supportsSteppingGranularity":true,"supportsTerminateRequest":true,"supportsWriteMemoryRequest":true}
 launch {"program":"count.asm","stopAtEnd":1} < undefined
@@ -244,7 +244,7 @@ initialize
     "supportsConfigurationDoneRequest":true,"supportsDisassembleRequest":true,
     "supportsEvaluateForHovers":true,"supportsExceptionInfoRequest":true,
     "supportsFunctionBreakpoints":true,"supportsGotoTargetsRequest":true,
-    "supportsLoadedSourcesRequest":true,"supportsReadMemoryRequest":true,
+    "supportsLoadedSourcesRequest":true,"supportsLogPoints":true,"supportsReadMemoryRequest":true,
     "supportsRestartRequest":true,"supportsSetVariable":true,"supportsStepBack":true,
     "supportsSteppingGranularity":true,"supportsTerminateRequest":true,"supportsWriteMemoryRequest":true}
 launch {"program":"count.asm","stopAtEnd":true,"noDebug":true} < undefined
@@ -270,7 +270,7 @@ initialize {"supportsInvalidatedEvent":true,"supportsMemoryEvent":true}
     "supportsConfigurationDoneRequest":true,"supportsDisassembleRequest":true,
     "supportsEvaluateForHovers":true,"supportsExceptionInfoRequest":true,
     "supportsFunctionBreakpoints":true,"supportsGotoTargetsRequest":true,
-    "supportsLoadedSourcesRequest":true,"supportsReadMemoryRequest":true,
+    "supportsLoadedSourcesRequest":true,"supportsLogPoints":true,"supportsReadMemoryRequest":true,
     "supportsRestartRequest":true,"supportsSetVariable":true,"supportsStepBack":true,
     "supportsSteppingGranularity":true,"supportsTerminateRequest":true,"supportsWriteMemoryRequest":true}
 evaluate {"expression":"switches 4","context":"repl"}
@@ -331,7 +331,7 @@ initialize {"supportsInvalidatedEvent":false,"supportsMemoryEvent":true}
     "supportsConfigurationDoneRequest":true,"supportsDisassembleRequest":true,
     "supportsEvaluateForHovers":true,"supportsExceptionInfoRequest":true,
     "supportsFunctionBreakpoints":true,"supportsGotoTargetsRequest":true,
-    "supportsLoadedSourcesRequest":true,"supportsReadMemoryRequest":true,
+    "supportsLoadedSourcesRequest":true,"supportsLogPoints":true,"supportsReadMemoryRequest":true,
     "supportsRestartRequest":true,"supportsSetVariable":true,"supportsStepBack":true,
     "supportsSteppingGranularity":true,"supportsTerminateRequest":true,"supportsWriteMemoryRequest":true}
 initialize {"supportsInvalidatedEvent":true}

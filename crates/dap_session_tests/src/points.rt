@@ -12,7 +12,7 @@ initialize
     "supportsConfigurationDoneRequest":true,"supportsDisassembleRequest":true,
     "supportsEvaluateForHovers":true,"supportsExceptionInfoRequest":true,
     "supportsFunctionBreakpoints":true,"supportsGotoTargetsRequest":true,
-    "supportsLoadedSourcesRequest":true,"supportsReadMemoryRequest":true,
+    "supportsLoadedSourcesRequest":true,"supportsLogPoints":true,"supportsReadMemoryRequest":true,
     "supportsRestartRequest":true,"supportsSetVariable":true,"supportsStepBack":true,
     "supportsSteppingGranularity":true,"supportsTerminateRequest":true,"supportsWriteMemoryRequest":true}
 launch {"program":"count.asm"} < letters
@@ -33,7 +33,7 @@ setFunctionBreakpoints {"breakpoints":[{"name":"second"},{"name":"START"},
   4 "setFunctionBreakpoints" true {"breakpoints":[
     {"id":1,"line":5,"verified":true},
     {"id":2,"message":"the program has no such label","verified":false},
-    {"id":3,"line":3,"message":"hit counts and log messages are not supported","verified":false}]}
+    {"id":3,"line":3,"message":"hit counts are not supported","verified":false}]}
 breakpointLocations {"source":{"path":"count.asm"},"line":0,"endLine":6}
   5 "breakpointLocations" true {"breakpoints":[{"line":3},{"line":4},{"line":5},{"line":6}]}
 breakpointLocations {"source":{"path":"other.asm"},"line":3}
@@ -49,7 +49,7 @@ restart < loop
   "breakpoint" {"breakpoint":{"id":1,"message":"the program has no such label","verified":false},
     "reason":"changed"}
   "breakpoint" {"breakpoint":{"id":3,
-    "message":"hit counts and log messages are not supported","verified":false},
+    "message":"hit counts are not supported","verified":false},
     "reason":"changed"}
 configurationDone
   8 "configurationDone" true {}
@@ -67,7 +67,7 @@ initialize
     "supportsConfigurationDoneRequest":true,"supportsDisassembleRequest":true,
     "supportsEvaluateForHovers":true,"supportsExceptionInfoRequest":true,
     "supportsFunctionBreakpoints":true,"supportsGotoTargetsRequest":true,
-    "supportsLoadedSourcesRequest":true,"supportsReadMemoryRequest":true,
+    "supportsLoadedSourcesRequest":true,"supportsLogPoints":true,"supportsReadMemoryRequest":true,
     "supportsRestartRequest":true,"supportsSetVariable":true,"supportsStepBack":true,
     "supportsSteppingGranularity":true,"supportsTerminateRequest":true,"supportsWriteMemoryRequest":true}
 launch {"program":"count.asm","stopOnEntry":true} < counts
@@ -134,6 +134,96 @@ slice
   "stopped" {"allThreadsStopped":true,"reason":"step","threadId":1}
 "#;
 
+/// Log messages: at the program's first instruction, with values, with a condition, with faults; in a routine
+/// that `next` steps over, and beside a breakpoint that stops.
+const LOGS: &str = r#"
+initialize
+  0 "initialize" true {"exceptionBreakpointFilters":[{"default":true,"filter":"undefined",
+    "label":"Undefined opcodes"},{"default":false,"filter":"halt","label":"HLT"}],
+    "supportsBreakpointLocationsRequest":true,"supportsConditionalBreakpoints":true,
+    "supportsConfigurationDoneRequest":true,"supportsDisassembleRequest":true,
+    "supportsEvaluateForHovers":true,"supportsExceptionInfoRequest":true,
+    "supportsFunctionBreakpoints":true,"supportsGotoTargetsRequest":true,
+    "supportsLoadedSourcesRequest":true,"supportsLogPoints":true,"supportsReadMemoryRequest":true,
+    "supportsRestartRequest":true,"supportsSetVariable":true,"supportsStepBack":true,
+    "supportsSteppingGranularity":true,"supportsTerminateRequest":true,"supportsWriteMemoryRequest":true}
+launch {"program":"count.asm"} < counts
+  1 "launch" true {}
+  "initialized"
+setBreakpoints {"source":{"path":"count.asm"},"breakpoints":[
+    {"line":2,"logMessage":"begins, B is {B}"},{"line":5,"logMessage":"B {B}, {{SP}} {SP:x}"},
+    {"line":6,"condition":"B == 1","logMessage":"last"},{"line":6,"logMessage":"{B"},
+    {"line":6,"logMessage":"x{NOTHING}"},{"line":6,"logMessage":"is {B EQ EQ}"}]}
+  2 "setBreakpoints" true {"breakpoints":[
+    {"id":257,"line":2,"verified":true},{"id":258,"line":5,"verified":true},
+    {"id":259,"line":6,"verified":true},
+    {"id":260,"line":6,"message":"log message, column 1: open brace","verified":false},
+    {"id":261,"line":6,"message":"log message: Undefined","verified":false},
+    {"id":262,"line":6,"message":"log message, column 10: Name","verified":false}]}
+setFunctionBreakpoints {"breakpoints":[{"name":"SAY","logMessage":"say"}]}
+  3 "setFunctionBreakpoints" true {"breakpoints":[{"id":1,"line":8,"verified":true}]}
+configurationDone
+  4 "configurationDone" true {}
+slice
+  "output" {"category":"console","column":1,"line":2,"output":"begins, B is 0\n",
+    "source":{"name":"count.asm","path":"count.asm"}}
+slice
+  "output" {"category":"console","column":1,"line":8,"output":"say\n",
+    "source":{"name":"count.asm","path":"count.asm"}}
+  "output" {"category":"stdout","output":"."}
+slice
+  "output" {"category":"console","column":1,"line":5,"output":"B 3, {SP} 00200H\n",
+    "source":{"name":"count.asm","path":"count.asm"}}
+slice
+slice
+  "output" {"category":"console","column":1,"line":8,"output":"say\n",
+    "source":{"name":"count.asm","path":"count.asm"}}
+  "output" {"category":"stdout","output":"."}
+slice
+  "output" {"category":"console","column":1,"line":5,"output":"B 2, {SP} 00200H\n",
+    "source":{"name":"count.asm","path":"count.asm"}}
+slice
+  "output" {"category":"console","column":1,"line":6,"output":"last\n",
+    "source":{"name":"count.asm","path":"count.asm"}}
+slice
+  "output" {"category":"console","column":1,"line":8,"output":"say\n",
+    "source":{"name":"count.asm","path":"count.asm"}}
+  "output" {"category":"stdout","output":"."}
+slice
+  "output" {"category":"console","column":1,"line":5,"output":"B 1, {SP} 00200H\n",
+    "source":{"name":"count.asm","path":"count.asm"}}
+slice
+  "exited" {"exitCode":0}
+  "terminated"
+setBreakpoints {"source":{"path":"count.asm"},"breakpoints":[{"line":4},
+    {"line":4,"logMessage":"calls"},{"line":5,"logMessage":"back"}]}
+  15 "setBreakpoints" true {"breakpoints":[{"id":257,"line":4,"verified":true},
+    {"id":258,"line":4,"verified":true},{"id":259,"line":5,"verified":true}]}
+restart < counts
+  16 "restart" true {}
+  "continued" {"allThreadsContinued":true,"threadId":1}
+slice
+  "stopped" {"allThreadsStopped":true,"reason":"breakpoint","threadId":1}
+next {"threadId":1}
+  18 "next" true {}
+  "continued" {"allThreadsContinued":true,"threadId":1}
+slice
+  "output" {"category":"console","column":1,"line":4,"output":"calls\n",
+    "source":{"name":"count.asm","path":"count.asm"}}
+slice
+  "output" {"category":"console","column":1,"line":8,"output":"say\n",
+    "source":{"name":"count.asm","path":"count.asm"}}
+  "output" {"category":"stdout","output":"."}
+  "stopped" {"allThreadsStopped":true,"reason":"step","threadId":1}
+continue {"threadId":1}
+  21 "continue" true {"allThreadsContinued":true}
+  "continued" {"allThreadsContinued":true,"threadId":1}
+slice
+  "output" {"category":"console","column":1,"line":5,"output":"back\n",
+    "source":{"name":"count.asm","path":"count.asm"}}
+  "stopped" {"allThreadsStopped":true,"reason":"breakpoint","threadId":1}
+"#;
+
 #[test]
 fn breakpoints_are_placed(rt: HostRuntime) -> Result<(), Fail> {
     assert_eq!(rt; first_other(rt.alloc(), POINTS)?, None);
@@ -143,5 +233,11 @@ fn breakpoints_are_placed(rt: HostRuntime) -> Result<(), Fail> {
 #[test]
 fn conditions_are_asked(rt: HostRuntime) -> Result<(), Fail> {
     assert_eq!(rt; first_other(rt.alloc(), CONDITIONS)?, None);
+    Ok(())
+}
+
+#[test]
+fn log_messages_are_told(rt: HostRuntime) -> Result<(), Fail> {
+    assert_eq!(rt; first_other(rt.alloc(), LOGS)?, None);
     Ok(())
 }

@@ -11,7 +11,7 @@ initialize
     "supportsConfigurationDoneRequest":true,"supportsDisassembleRequest":true,
     "supportsEvaluateForHovers":true,"supportsExceptionInfoRequest":true,
     "supportsFunctionBreakpoints":true,"supportsGotoTargetsRequest":true,
-    "supportsLoadedSourcesRequest":true,"supportsReadMemoryRequest":true,
+    "supportsLoadedSourcesRequest":true,"supportsLogPoints":true,"supportsReadMemoryRequest":true,
     "supportsRestartRequest":true,"supportsSetVariable":true,"supportsStepBack":true,
     "supportsSteppingGranularity":true,"supportsTerminateRequest":true,"supportsWriteMemoryRequest":true}
 launch {"program":"count.asm"} < undefined
@@ -65,7 +65,7 @@ initialize
     "supportsConfigurationDoneRequest":true,"supportsDisassembleRequest":true,
     "supportsEvaluateForHovers":true,"supportsExceptionInfoRequest":true,
     "supportsFunctionBreakpoints":true,"supportsGotoTargetsRequest":true,
-    "supportsLoadedSourcesRequest":true,"supportsReadMemoryRequest":true,
+    "supportsLoadedSourcesRequest":true,"supportsLogPoints":true,"supportsReadMemoryRequest":true,
     "supportsRestartRequest":true,"supportsSetVariable":true,"supportsStepBack":true,
     "supportsSteppingGranularity":true,"supportsTerminateRequest":true,"supportsWriteMemoryRequest":true}
 setExceptionBreakpoints {"filters":["halt","undefined"]}
@@ -92,7 +92,7 @@ initialize
     "supportsConfigurationDoneRequest":true,"supportsDisassembleRequest":true,
     "supportsEvaluateForHovers":true,"supportsExceptionInfoRequest":true,
     "supportsFunctionBreakpoints":true,"supportsGotoTargetsRequest":true,
-    "supportsLoadedSourcesRequest":true,"supportsReadMemoryRequest":true,
+    "supportsLoadedSourcesRequest":true,"supportsLogPoints":true,"supportsReadMemoryRequest":true,
     "supportsRestartRequest":true,"supportsSetVariable":true,"supportsStepBack":true,
     "supportsSteppingGranularity":true,"supportsTerminateRequest":true,"supportsWriteMemoryRequest":true}
 launch {"program":"count.asm","stopOnEntry":true} < letters
@@ -147,7 +147,7 @@ initialize
     "supportsConfigurationDoneRequest":true,"supportsDisassembleRequest":true,
     "supportsEvaluateForHovers":true,"supportsExceptionInfoRequest":true,
     "supportsFunctionBreakpoints":true,"supportsGotoTargetsRequest":true,
-    "supportsLoadedSourcesRequest":true,"supportsReadMemoryRequest":true,
+    "supportsLoadedSourcesRequest":true,"supportsLogPoints":true,"supportsReadMemoryRequest":true,
     "supportsRestartRequest":true,"supportsSetVariable":true,"supportsStepBack":true,
     "supportsSteppingGranularity":true,"supportsTerminateRequest":true,"supportsWriteMemoryRequest":true}
 configurationDone

@@ -26,7 +26,7 @@ use Rattle.lab_core.specs.Marks.{Leaves}
 use Rattle.lab_core.proofs.LawLemmas.{applies-given, slice_within}
 use Rattle.lab_core.proofs.MarkLemmas.{first-within, first-before}
 use Rattle.dap_slice.specs.declared.conditions.ConditionalBreakpoint.{ConditionalBreakpoint}
-use Rattle.dap_slice.specs.Conditions.{outcome_at, IsMarked}
+use Rattle.dap_slice.specs.Conditions.{is_any_met, outcome_at, IsMarked}
 use Rattle.dap_slice.specs.SliceEnds.{is_at_after, first_arrival, stopped_if_met, slice_end_within}
 use Rattle.dap_slice.specs.SliceEnds.{after_end, after_slice_within, IsSliceEnd, IsSliceWithin}
 use Rattle.dap_slice.specs.declared.slice.SliceResult.{SliceResult}
@@ -198,6 +198,25 @@ pub within_arrival : (points : Points) (n : ℕ) (b : Board)
 within_arrival points n b =
     let k = first_arrival points n b in
     rw (count-of points b (slice_from k 0 b)) (slice_within k b)
+
+-- a breakpoint that stops nothing leaves an end as it is
+kept_end : (points : Points) (b : Board) (end : ℕ × SliceOutcome)
+    → is_any_met points (after_steps end.0 b) ≡ false → stopped_if_met points b end ≡ end
+kept_end points b (k, outcome.More) none =
+    ap (λ met. (k, if met then outcome.Stop stop.Breakpoint else outcome.More)) none
+kept_end points b (k, outcome.Waiting) none = refl
+kept_end points b (k, outcome.Stop s) none = refl
+kept_end points b (k, outcome.End e) none = refl
+
+pub unmet_plain : (points : Points) (n : ℕ) (b : Board)
+    → ((j : ℕ) → j ≤ n → is_any_met points (after_steps j b) ≡ false)
+    → slice_end_within points n b ≡ slice_from (first_arrival points n b) 0 b
+unmet_plain points n b none =
+    let k = first_arrival points n b in
+    let end = slice_from k 0 b in
+    let within : end.0 ≤ n =
+    omega (arith, slice_within k b, first-within (is_at_after points b) n 0) in
+    kept_end points b end (none end.0 within)
 
 pub end_within : (points : Points) (n : ℕ) (b : Board) → (slice_end_within points n b).0 ≤ n
 end_within points n b =

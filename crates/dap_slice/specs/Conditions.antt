@@ -1,5 +1,6 @@
--- Breakpoints with conditions (Debug Adapter Protocol, "SourceBreakpoint": `condition`).
-use Rattle.std.specs.Prelude.{◌≡◌, ℕ, List, [], Bool, true, ◌&&◌, ◌==◌, not, Result, Ok, Err, if◌then◌else◌}
+-- Breakpoints with conditions or log messages (Debug Adapter Protocol, "SourceBreakpoint").
+use Rattle.std.specs.Prelude.{◌≡◌, ℕ, List, [], Bool, true, ◌&&◌, ◌==◌, not, Option, Some, None, is_none}
+use Rattle.std.specs.Prelude.{Result, Ok, Err, if◌then◌else◌}
 use Rattle.std.specs.List.{list_any}
 use Rattle.asm_expr.specs.declared.evaluation.ExprFault.{ExprFault}
 use Rattle.lab_image.specs.Addresses.{has}
@@ -8,6 +9,7 @@ use Rattle.lab_core.specs.declared.answer.SliceOutcome.TheVariants as outcome
 use Rattle.lab_core.specs.declared.answer.Stop.TheVariants as stop
 use Rattle.lab_core.specs.Board.{Board}
 use Rattle.lab_core.specs.Marks.{MarksState}
+use Rattle.dap_expr.specs.declared.expression.Expression.{Expression}
 use Rattle.dap_expr.specs.Values.{value_on}
 use Rattle.dap_slice.specs.declared.conditions.ConditionalBreakpoint.{ConditionalBreakpoint}
 
@@ -23,12 +25,21 @@ abbrev pub is_true : Result ℕ ExprFault → Bool
 is_true (Ok value) = not (value == 0)
 is_true (Err fault) = true
 
-abbrev pub is_met_on : Board → ConditionalBreakpoint → Bool
-is_met_on b p = is_there b.machine.regs.pc p && is_true (value_on b p.condition)
+abbrev pub holds_on : Board → Option Expression → Bool
+holds_on b None = true
+holds_on b (Some condition) = is_true (value_on b condition)
 
--- a breakpoint at PC whose condition is true, while a debugger is attached
+-- it is at PC, and its condition is true
+abbrev pub is_met_on : Board → ConditionalBreakpoint → Bool
+is_met_on b p = is_there b.machine.regs.pc p && holds_on b p.condition
+
+-- one with a log message stops nothing
+abbrev pub stops_on : Board → ConditionalBreakpoint → Bool
+stops_on b p = is_none p.log && is_met_on b p
+
+-- a breakpoint stops the run, while a debugger is attached
 abbrev pub is_any_met : List ConditionalBreakpoint → Board → Bool
-is_any_met points b = b.is_attached && list_any (is_met_on b) points
+is_any_met points b = b.is_attached && list_any (stops_on b) points
 
 -- how a slice ends that comes to a board and has no other reason to end there
 abbrev pub outcome_at : List ConditionalBreakpoint → Board → SliceOutcome

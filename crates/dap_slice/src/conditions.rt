@@ -1,26 +1,38 @@
-//! Breakpoints with conditions.
+//! Breakpoints with conditions or log messages.
 ghost use Rattle.std.specs.Prelude.{◌≡◌, ◌++◌, ◌∷◌, [], IfOk, OnOk, OnErr};
 ghost use Rattle.std.specs.List.{list_any};
 ghost use Rattle.asm_expr.specs.declared.evaluation.ExprFault.{ExprFault};
 ghost use Rattle.lab_core.specs.Board.{Board};
 ghost use Rattle.lab_core.specs.Labs.{RepresentsBoard};
-ghost use Rattle.dap_slice.specs.Conditions.{is_true, is_met_on};
+ghost use Rattle.dap_slice.specs.Conditions.{is_true, holds_on, is_met_on, stops_on};
 
 use asm_expr::evaluation::ExprFault;
+use base_text::text::Text;
 use dap_expr::expression::Expression;
+use dap_log::message::LogMessage;
 use lab_core::lab::Lab;
 use lab_core::marks::Marks;
 use std::alloc::{AllocError, Global};
 use std::marker::Model;
 
-/// A breakpoint at an address, and its condition.
+/// A log message, and the line where it stands.
+#[derive(Drop)]
+pub struct LogPoint {
+    pub message: LogMessage,
+    pub path: Text,
+    pub line: u32,
+}
+
+/// A breakpoint at an address that is met only where its condition is true, if it has one. It stops the run
+/// there, or tells its log message.
 #[derive(Drop)]
 pub struct ConditionalBreakpoint {
     pub address: u16,
-    pub condition: Expression,
+    pub condition: Option<Expression>,
+    pub log: Option<LogPoint>,
 }
 
-/// Breakpoints with conditions, with marks at their addresses.
+/// Such breakpoints, with marks at their addresses.
 #[derive(Drop)]
 pub struct ConditionalBreakpoints {
     pub(crate) points: Vec<ConditionalBreakpoint>,
@@ -52,18 +64,34 @@ fn is_true(value: Result<u16, ExprFault>) -> bool
     }
 }
 
-fn is_met(lab: &Lab, point: &ConditionalBreakpoint) -> bool
-    ensures { (b : Board) → RepresentsBoard lab.now b → result ≡ is_met_on b point.now }
+fn holds(lab: &Lab, condition: &Option<Expression>) -> bool
+    ensures { (b : Board) → RepresentsBoard lab.now b → result ≡ holds_on b condition.now }
 {
-    point.address == lab.regs().pc && is_true(point.condition.value(lab))
+    match condition {
+        None => true,
+        Some(condition) => is_true(condition.value(lab)),
+    }
 }
 
 /// Whether a breakpoint is at PC and its condition is true.
+pub(crate) fn is_met(lab: &Lab, point: &ConditionalBreakpoint) -> bool
+    ensures { (b : Board) → RepresentsBoard lab.now b → result ≡ is_met_on b point.now }
+{
+    point.address == lab.regs().pc && holds(lab, &point.condition)
+}
+
+fn stops(lab: &Lab, point: &ConditionalBreakpoint) -> bool
+    ensures { (b : Board) → RepresentsBoard lab.now b → result ≡ stops_on b point.now }
+{
+    point.log.is_none() && is_met(lab, point)
+}
+
+/// Whether a breakpoint without a log message is met.
 pub(crate) fn is_any_met(lab: &Lab, points: &[ConditionalBreakpoint]) -> bool
-    ensures { (b : Board) → RepresentsBoard lab.now b → result ≡ list_any (is_met_on b) points.now }
+    ensures { (b : Board) → RepresentsBoard lab.now b → result ≡ list_any (stops_on b) points.now }
 {
     for point in points {
-        if is_met(lab, point) {
+        if stops(lab, point) {
             return true;
         }
     }
@@ -80,6 +108,20 @@ impl ConditionalBreakpoints {
             points: Vec::new(alloc),
             marks,
         })
+    }
+
+    /// The breakpoints, in their order.
+    pub fn points(&self) -> &[ConditionalBreakpoint]
+        ensures { result.now ≡ self.now }
+    {
+        &self.points
+    }
+
+    /// Whether one of them stops a run that comes to where the board is.
+    pub fn is_any_met(&self, lab: &Lab) -> bool
+        ensures { (b : Board) → RepresentsBoard lab.now b → result ≡ list_any (stops_on b) self.now }
+    {
+        is_any_met(lab, &self.points)
     }
 
     /// Adds a breakpoint. If memory runs out nothing changes.

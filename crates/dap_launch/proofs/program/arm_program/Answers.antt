@@ -15,7 +15,7 @@ returns-clause-ok c = λ b represents.
     let lines : c.lines_at.result.now ≡ lines_at program.launch.program points.lists =
     c.lines_at.ensures.lines ∙ ap (λ path. lines_at path points.lists) c.as_str-path.ensures in
     let P : ℕ → List LineBreakpoint → List FunctionBreakpoint → Type 0 =
-    λ n ls fs. IfOk c.arm_with.result (λ conditional. (conditional ≡ conditional_with n ls fs b)
+    λ n ls fs. IfOk c.arm_with.result (λ conditional. (conditional ≡ conditional_with program n ls fs b)
     × RepresentsBoard c.arm_with.new.lab (armed_with program n ls fs b)) in
     subst (λ n. P n (lines_at program.launch.program points.lists) (take 256 points.functions)) number
     (subst (λ ls. P c.number_of.result ls (take 256 points.functions)) lines

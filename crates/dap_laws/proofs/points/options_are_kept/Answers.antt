@@ -1,5 +1,5 @@
-use Rattle.dap_laws.proofs.PointLemmas.{condition_asked}
-use Rattle.dap_laws.proofs.points.condition_is_asked.Goals as goal
+use Rattle.dap_laws.proofs.PointLemmas.{options_kept}
+use Rattle.dap_laws.proofs.points.options_are_kept.Goals as goal
 
 pub returns : goal.returns
-returns c = condition_asked
+returns c = options_kept

@@ -2,9 +2,9 @@ use Rattle.std.proofs.Common.{◌≡◌, false, take}
 use Rattle.std.specs.List.{list_any}
 use Rattle.lab_core.specs.Board.{Board}
 use Rattle.lab_core.specs.Labs.{RepresentsBoard}
-use Rattle.dap_slice.specs.Conditions.{is_met_on}
+use Rattle.dap_slice.specs.Conditions.{stops_on}
 use Rattle.dap_slice.proofs.conditions.is_any_met.Given as goal
 
 abbrev pub invariant-loop-point : goal.invariant-loop-point
 invariant-loop-point l =
-    (b : Board) → RepresentsBoard l.lab b → list_any (is_met_on b) (take l.point-index l.points) ≡ false
+    (b : Board) → RepresentsBoard l.lab b → list_any (stops_on b) (take l.point-index l.points) ≡ false

@@ -1,0 +1,58 @@
+-- What the steps of a slice tell.
+use Rattle.std.proofs.Common.{◌≡◌, ◌∙◌, ◌≤◌, ◌<◌, ◌++◌, ◌∷◌, [], ℕ, zero, suc, List, Bool, true, false, ◌||◌}
+use Rattle.std.proofs.Common.{◌&&◌, ◌==◌, if◌then◌else◌, nat_lt, option_map, Option, None, refl, sym, ap}
+use Rattle.std.proofs.Common.{arith}
+use Rattle.std.proofs.lemmas.Bool.Decides.{nat_tests}
+use Rattle.std.specs.List.{filter_map, cons_option}
+use Rattle.lab_core.specs.Board.{Board}
+use Rattle.lab_core.specs.Slices.{after_steps}
+use Rattle.dap_slice.specs.declared.conditions.ConditionalBreakpoint.{ConditionalBreakpoint}
+use Rattle.dap_slice.specs.declared.logs.LogLine.{LogLine}
+use Rattle.dap_slice.specs.Conditions.{is_there, is_any_at, holds_on}
+use Rattle.dap_slice.specs.Logs.{line_on, log_on, logs_on, logs_before, logs_of_steps}
+use Rattle.dap_slice.specs.SliceEnds.{is_at_after, slice_end_within}
+use Rattle.dap_slice.proofs.SliceLemmas.{none_passed}
+
+-- where no breakpoint is nothing is told
+none-there : (points : List ConditionalBreakpoint) (b : Board)
+    → is_any_at points b.machine.regs.pc ≡ false → logs_on points b ≡ []
+none-there [] b none = refl
+none-there (p ∷ ps) b none = by (is_there b.machine.regs.pc p) refl none (none-there ps b)
+  where
+    by : (here : Bool) → is_there b.machine.regs.pc p ≡ here
+        → (here || is_any_at ps b.machine.regs.pc) ≡ false
+        → (is_any_at ps b.machine.regs.pc ≡ false → logs_on ps b ≡ []) → logs_on (p ∷ ps) b ≡ []
+    by true is none rest = absurd cc
+    by false is none rest = rw is (rest none)
+
+append-nil : (xs : List LogLine) → xs ++ [] ≡ xs
+append-nil [] = refl
+append-nil (x ∷ xs) = ap (λ rest. x ∷ rest) (append-nil xs)
+
+positive : (k : ℕ) → nat_lt 0 (suc k) ≡ true
+positive k = grind (arith, nat_tests)
+
+-- steps of which only the first may be at a breakpoint
+first-alone : (points : List ConditionalBreakpoint) (b : Board) (k : ℕ)
+    → ((j : ℕ) → 1 ≤ j → j < suc k → is_at_after points b j ≡ false)
+    → logs_on points b ≡ logs_of_steps points (suc k) b
+first-alone points b zero none = refl
+first-alone points b (suc k) none =
+    let before = first-alone points b k (λ j some below. none j some (omega (arith, below))) in
+    let quiet = none-there points (after_steps (suc k) b) (none (suc k) (omega arith) (omega arith)) in
+    before
+    ∙ (sym (append-nil (logs_of_steps points (suc k) b))
+    ∙ ap (λ xs. logs_of_steps points (suc k) b ++ xs) (sym quiet))
+
+told_by-steps : (points : List ConditionalBreakpoint) (b : Board) (k : ℕ)
+    → ((j : ℕ) → 1 ≤ j → j < k → is_at_after points b j ≡ false)
+    → logs_before points k b ≡ logs_of_steps points k b
+told_by-steps points b zero none = refl
+told_by-steps points b (suc k) none =
+    ap (λ some. if some then logs_on points b else []) (positive k) ∙ first-alone points b k none
+
+pub each_told : (points : List ConditionalBreakpoint) (n : ℕ) (b : Board)
+    → logs_before points (slice_end_within points n b).0 b
+    ≡ logs_of_steps points (slice_end_within points n b).0 b
+each_told points n b =
+    told_by-steps points b (slice_end_within points n b).0 (none_passed points n b)
