@@ -4,6 +4,7 @@ use Rattle.std.proofs.Common.{nat_lt, ◌&&◌, ◌||◌, ◌==◌, Option, Some
 use Rattle.std.proofs.Common.{Result, Ok, Err, map, refl, sym, ap, subst, arith, inl, inr}
 use Rattle.std.specs.Result.{OnErr}
 use Rattle.std.proofs.lemmas.Bool.{cases_lt, false≢true}
+use Rattle.std.proofs.Math.Bool.{or-false}
 use Rattle.std.proofs.lemmas.Bool.Decides.{nat_tests}
 use Rattle.lab_image.specs.Addresses.{has}
 use Rattle.lab_core.specs.declared.answer.Answer.{Answer}
@@ -14,17 +15,21 @@ use Rattle.lab_core.specs.Labs.{LabState}
 use Rattle.lab_core.specs.Marks.{MarksState, SlicesTo, first_mark, marked_at, marks_after, watch_of}
 use Rattle.lab_core.specs.Moments.{MomentState, IsMomentOf, put_back}
 use Rattle.lab_core.proofs.MarkLemmas.{first-before}
+use Rattle.dap_slice.specs.declared.conditions.ConditionalBreakpoint.{ConditionalBreakpoint}
+use Rattle.dap_slice.specs.Conditions.{is_any_at}
 use Rattle.dap_history.specs.declared.goal.Goal.{Goal}
 use Rattle.dap_history.specs.declared.goal.Goal.TheVariants.{Statement, Breakpoint}
 use Rattle.dap_history.specs.declared.input.Recorded.{Recorded}
 use Rattle.dap_history.specs.Logs.{Ascends, later_than}
-use Rattle.dap_history.specs.Runs.{at_from, board_at, detached_run, RunsDetached, OnlyRunChanges}
-use Rattle.dap_history.specs.Searches.{is_goal, last_below, goal_below, passes, stride_of, IsMarked}
-use Rattle.dap_history.specs.Searches.{SearchState, IsSearchOf, IsScanOf, IsUnderWay}
+use Rattle.dap_history.specs.Runs.{at_from, board_at, after_rewind, detached_run, RunsDetached}
+use Rattle.dap_history.specs.Runs.{OnlyRunChanges}
+use Rattle.dap_history.specs.Searches.{Target, is_goal, is_met_at, last_below, goal_below, passes, stride_of}
+use Rattle.dap_history.specs.Searches.{IsMarked, SearchState, IsSearchOf, IsScanOf, IsUnderWay}
 use Rattle.dap_history.specs.declared.scan.Scan.{Scan}
 use Rattle.dap_history.proofs.LogLemmas.{all_later, ascends_from}
 use Rattle.dap_history.proofs.RunLemmas.{goes_on, goes_on_before, no_input, steps_as}
 use Rattle.dap_history.proofs.HistoryLemmas.{same_moment}
+use Rattle.dap_history.proofs.PointLemmas.{same_stops, both_false, none_stops}
 use Rattle.dap_history.proofs.ReplayLemmas.{unchanged, keeps_rest, run_keeps}
 
 -- ---- the last count
@@ -54,6 +59,43 @@ passed_over test a (suc k) none =
     ap (last_below test) is
     ∙ not_here test (a + suc k) (none (suc k) (omega arith) (omega arith))
     ∙ passed_over test a k (λ j some below. none j some (omega arith))
+
+within_if : (passes : Bool) (n last : ℕ) → last ≤ n → (if passes then n else last) ≤ suc n
+within_if true n last within = omega arith
+within_if false n last within = omega (arith, within)
+
+last_within : (test : ℕ → Bool) (n : ℕ) → last_below test n ≤ n
+unfolding last_below
+last_within test zero = omega arith
+last_within test (suc n) = within_if (test n) n (last_below test n) (last_within test n)
+
+later_if : (passes more : Bool) (n last last' : ℕ) → (passes ≡ true → more ≡ true) → last ≤ n → last ≤ last'
+    → (if passes then n else last) ≤ (if more then n else last')
+later_if true more n last last' adds within later = rw (adds refl) (omega arith)
+later_if false true n last last' adds within later = within
+later_if false false n last last' adds within later = later
+
+-- where more counts pass, the last one is no earlier
+pub last_later : (test more : ℕ → Bool) → ((m : ℕ) → test m ≡ true → more m ≡ true) → (n : ℕ)
+    → last_below test n ≤ last_below more n
+unfolding last_below
+last_later test more adds zero = omega arith
+last_later test more adds (suc n) =
+    later_if (test n) (more n) n (last_below test n) (last_below more n) (adds n) (last_within test n)
+    (last_later test more adds n)
+
+either : (met stops : Bool) → (met || false) ≡ true → (met || stops) ≡ true
+either true stops is = refl
+either false stops is = absurd (false≢true is)
+
+-- with breakpoints with conditions a search leads no farther back
+pub conditions_add : (points : List ConditionalBreakpoint) (start now : Board) (log : List Recorded) (n : ℕ)
+    → goal_below (record { goal = Breakpoint; points = [] }) start log now n
+    ≤ goal_below (record { goal = Breakpoint; points = points }) start log now n
+conditions_add points start now log n =
+    last_later (passes (record { goal = Breakpoint; points = [] }) start log now)
+    (passes (record { goal = Breakpoint; points = points }) start log now)
+    (λ m. either _ _) n
 
 -- ---- up to the next input
 
@@ -93,33 +135,45 @@ board_then start log rest a k asc is later =
 -- ---- the test
 
 -- it depends on the run alone
-pub same_goal : (goal : Goal) (resumed : Option ℕ) (was now : Board)
-    → is_goal goal (detached_run resumed was now) ≡ is_goal goal (put_back was now)
-same_goal (Statement depth) resumed was now = refl
-same_goal Breakpoint resumed was now = refl
+pub same_goal : (points : List ConditionalBreakpoint) (goal : Goal) (resumed : Option ℕ) (was now : Board)
+    → is_goal points goal (detached_run resumed was now) ≡ is_goal points goal (put_back was now)
+same_goal points (Statement depth) resumed was now = refl
+same_goal points Breakpoint resumed was now =
+    ap (λ stops. is_met_at now.breakpoints now.loads was.machine.regs.pc || stops)
+    (same_stops (detached_run resumed was now) (put_back was now) points
+    (record { machine = refl; symbols = refl }))
+
+-- and is the same where the run is held
+pub held_goal : (points : List ConditionalBreakpoint) (was now : Board)
+    → is_goal points Breakpoint (after_rewind was now) ≡ is_goal points Breakpoint (put_back was now)
+held_goal points was now =
+    ap (λ stops. is_met_at now.breakpoints now.loads was.machine.regs.pc || stops)
+    (same_stops (after_rewind was now) (put_back was now) points (record { machine = refl; symbols = refl }))
 
 -- between two tests no board passes
-pub passed_between : (goal : Goal) (was now : Board) (k : ℕ) → k ≤ stride_of goal
-    → ((j : ℕ) → 1 ≤ j → j < k → is_goal Breakpoint (put_back (after_steps j was) now) ≡ false)
-    → (j : ℕ) → 1 ≤ j → j < k → is_goal goal (put_back (after_steps j was) now) ≡ false
-passed_between (Statement depth) was now k few passed j some below = absurd (omega arith)
-passed_between Breakpoint was now k few passed j some below = passed j some below
+pub passed_between : (points : List ConditionalBreakpoint) (goal : Goal) (was now : Board) (k : ℕ)
+    → k ≤ stride_of goal
+    → ((j : ℕ) → 1 ≤ j → j < k → is_goal points Breakpoint (put_back (after_steps j was) now) ≡ false)
+    → (j : ℕ) → 1 ≤ j → j < k → is_goal points goal (put_back (after_steps j was) now) ≡ false
+passed_between points (Statement depth) was now k few passed j some below = absurd (omega arith)
+passed_between points Breakpoint was now k few passed j some below = passed j some below
 
 -- from one test to the next
-pub seen_on : (goal : Goal) (start now : Board) (log rest : List Recorded) (a k before : ℕ)
+pub seen_on : (target : Target) (start now : Board) (log rest : List Recorded) (a k before : ℕ)
     (best : Option ℕ) → Ascends 0 log → rest ≡ later_than a log → Ascends (a + k) rest → 1 ≤ k
-    → k ≤ stride_of goal
+    → k ≤ stride_of target.goal
     → ((j : ℕ) → 1 ≤ j → j < k
-    → is_goal Breakpoint (put_back (after_steps j (board_at start log a)) now) ≡ false)
-    → goal_below goal start log now a ≡ unwrap_or best before
-    → goal_below goal start log now (a + k)
-    ≡ unwrap_or (if passes goal start log now a then Some a else best) before
-seen_on goal start now log rest a zero before best asc is later some few passed seen = absurd (omega arith)
-seen_on goal start now log rest a (suc k) before best asc is later some few passed seen =
-    let test = passes goal start log now in
+    → is_goal target.points Breakpoint (put_back (after_steps j (board_at start log a)) now) ≡ false)
+    → goal_below target start log now a ≡ unwrap_or best before
+    → goal_below target start log now (a + k)
+    ≡ unwrap_or (if passes target start log now a then Some a else best) before
+seen_on target start now log rest a zero before best asc is later some few passed seen = absurd (omega arith)
+seen_on target start now log rest a (suc k) before best asc is later some few passed seen =
+    let test = passes target start log now in
     passed_over test a k (λ j first below.
-    ap (λ b. is_goal goal (put_back b now)) (board_between start log rest a (suc k) j asc is later below)
-    ∙ passed_between goal (board_at start log a) now (suc k) few passed j first below)
+    ap (λ b. is_goal target.points target.goal (put_back b now))
+    (board_between start log rest a (suc k) j asc is later below)
+    ∙ passed_between target.points target.goal (board_at start log a) now (suc k) few passed j first below)
     ∙ seen_next test a before best seen
 
 -- ---- the log on the way
@@ -166,28 +220,44 @@ pub marked_more : (a n : ℕ) (has met : Bool) → has ≡ (nat_lt a n && met)
 marked_more a n has false is = grind (arith, nat_tests)
 marked_more a n has true is = grind (arith, nat_tests)
 
-left_false : (x y : Bool) → (x || y) ≡ false → x ≡ false
-left_false false y is = refl
-left_false true y is = is
+-- with the addresses of breakpoints with conditions
+pub marked_with : (points : List ConditionalBreakpoint) (now : Board) (marks marks' : MarksState)
+    → IsMarked [] now marks
+    → ((a : ℕ) → has marks'.addresses a ≡ (has marks.addresses a || is_any_at points a))
+    → marks' ≡ record marks { addresses = marks'.addresses } → IsMarked points now marks'
+marked_with points now marks marks' marked more same = record {
+  addresses = λ a. more a ∙ ap (λ met. met || is_any_at points a) (marked.addresses a ∙ or-false _);
+  watches = ap (λ (m : MarksState). m.watches) same ∙ marked.watches;
+}
 
 -- no board between two marks is at a breakpoint
-pub passed_to : (marks : MarksState) (n k j : ℕ) (resumed : Option ℕ) (was now : Board)
-    → IsMarked now marks → k ≤ first_mark marks n (detached_run resumed was now) → 1 ≤ j → j < k
-    → is_goal Breakpoint (put_back (after_steps j was) now) ≡ false
-passed_to marks n k j resumed was now marked few some below =
+pub passed_to : (points : List ConditionalBreakpoint) (marks : MarksState) (n k j : ℕ) (resumed : Option ℕ)
+    (was now : Board) → IsMarked points now marks
+    → k ≤ first_mark marks n (detached_run resumed was now) → 1 ≤ j → j < k
+    → is_goal points Breakpoint (put_back (after_steps j was) now) ≡ false
+passed_to points marks n k j resumed was now marked few some below =
     let b = detached_run resumed was now in
+    let there = after_steps j was in
     let none : marked_at marks b j ≡ false =
     first-before (marked_at marks b) n 0 j (omega (arith, some)) (omega (arith, below, few)) in
-    let pc = ap (λ (x : Board). x.machine.regs.pc) (steps_as j resumed was now) in
-    sym (marked.addresses (after_steps j was).machine.regs.pc) ∙ ap (has marks.addresses) (sym pc)
-    ∙ left_false _ _ none
+    let at = there.machine.regs.pc in
+    let pc : (after_steps j b).machine.regs.pc ≡ at =
+    ap (λ (x : Board). x.machine.regs.pc) (steps_as j resumed was now) in
+    let unmarked : has marks.addresses at ≡ false =
+    ap (has marks.addresses) (sym pc) ∙ (both_false _ _ none).0 in
+    let apart =
+    both_false (is_met_at now.breakpoints now.loads at) (is_any_at points at)
+    (sym (marked.addresses at) ∙ unmarked) in
+    rw (apart.0, none_stops (put_back there now) points apart.1) refl
 
-pub marked_after : (now b : Board) (k : ℕ) (marks marks' : MarksState) → IsMarked now marks
-    → marks' ≡ marks_after k b marks → IsMarked now marks'
-marked_after now b k marks marks' marked same = subst (λ m. IsMarked now m) (sym same) (record {
-  addresses = marked.addresses;
-  watches = ap (map (watch_of (after_steps (k - 1) b).machine (after_steps k b).machine)) marked.watches;
-})
+pub marked_after : (points : List ConditionalBreakpoint) (now b : Board) (k : ℕ) (marks marks' : MarksState)
+    → IsMarked points now marks → marks' ≡ marks_after k b marks → IsMarked points now marks'
+marked_after points now b k marks marks' marked same =
+    subst (λ m. IsMarked points now m) (sym same) (record {
+      addresses = marked.addresses;
+      watches =
+          ap (map (watch_of (after_steps (k - 1) b).machine (after_steps k b).machine)) marked.watches;
+    })
 
 -- a slice up to a mark leaves all but the run
 pub slice_to_changes : (marks marks' : MarksState) (old new : LabState) (n : ℕ)
@@ -210,25 +280,25 @@ unfolding last_below
 zero_below test = refl
 
 -- all counts have been seen, and none passes
-pub none_found : (start now : Board) (log : List Recorded) (goal : Goal) (n : ℕ) (s : SearchState)
-    → IsSearchOf start log now goal n s → s.high ≤ s.scan.at → false ≡ is_some s.scan.best
+pub none_found : (start now : Board) (log : List Recorded) (target : Target) (n : ℕ) (s : SearchState)
+    → IsSearchOf start log now target n s → s.high ≤ s.scan.at → false ≡ is_some s.scan.best
     → s.low ≡ 0
-    → 0 ≡ goal_below goal start log now n
-none_found start now log goal n s search end none low =
+    → 0 ≡ goal_below target start log now n
+none_found start now log target n s search end none low =
     let within = search.within in
     let all : s.scan.at ≡ s.high = omega (arith, within, end) in
-    let last = goal_below goal start log now in
-    sym (zero_below (passes goal start log now)) ∙ ap last (sym low)
+    let last = goal_below target start log now in
+    sym (zero_below (passes target start log now)) ∙ ap last (sym low)
     ∙ ap (λ o. unwrap_or o (last s.low)) (sym (best_none s.scan.best none)) ∙ sym search.scan.seen
     ∙ ap last all ∙ search.above
 
 -- a new part begins
-pub begun : (start now : Board) (log : List Recorded) (goal : Goal) (n : ℕ) (s : SearchState) (low : ℕ)
-    (lab : LabState) → IsSearchOf start log now goal n s → s.here ≡ None → low ≤ s.high
+pub begun : (start now : Board) (log : List Recorded) (target : Target) (n : ℕ) (s : SearchState) (low : ℕ)
+    (lab : LabState) → IsSearchOf start log now target n s → s.here ≡ None → low ≤ s.high
     → RunsDetached (board_at start log low) now lab
-    → IsUnderWay start log now goal n
+    → IsUnderWay start log now target n
     (record s { scan = record s.scan { at = low; best = None }; low = low }) lab
-begun start now log goal n s low lab search none within runs = record {
+begun start now log target n s low lab search none within runs = record {
   search = record {
     above = search.above;
     scan = record { seen = refl; marks = search.scan.marks; goal_is = search.scan.goal_is };
@@ -241,11 +311,11 @@ begun start now log goal n s low lab search none within runs = record {
 }
 
 -- the scan goes on
-pub scanned : (start now : Board) (log : List Recorded) (goal : Goal) (n : ℕ) (s : SearchState) (scan : Scan)
-    (old new : LabState) → IsUnderWay start log now goal n s old
-    → IsScanOf start log now goal (goal_below goal start log now s.low) scan new → scan.at ≤ s.high
-    → IsUnderWay start log now goal n (record s { scan = scan }) new
-scanned start now log goal n s scan old new way is within = record {
+pub scanned : (start now : Board) (log : List Recorded) (target : Target) (n : ℕ) (s : SearchState)
+    (scan : Scan) (old new : LabState) → IsUnderWay start log now target n s old
+    → IsScanOf start log now target (goal_below target start log now s.low) scan new → scan.at ≤ s.high
+    → IsUnderWay start log now target n (record s { scan = scan }) new
+scanned start now log target n s scan old new way is within = record {
   search = record {
     above = way.search.above;
     scan = is.seen;
@@ -258,11 +328,11 @@ scanned start now log goal n s scan old new way is within = record {
 }
 
 -- the moment at which it is is kept
-pub kept : (start now : Board) (log : List Recorded) (goal : Goal) (n : ℕ) (s : SearchState)
-    (lab : LabState) (moment : MomentState) (way : IsUnderWay start log now goal n s lab)
+pub kept : (start now : Board) (log : List Recorded) (target : Target) (n : ℕ) (s : SearchState)
+    (lab : LabState) (moment : MomentState) (way : IsUnderWay start log now target n s lab)
     → IsMomentOf moment (detached_run way.runs.0 (board_at start log s.scan.at) now)
-    → IsSearchOf start log now goal n (record s { here = Some moment })
-kept start now log goal n s lab moment way is = record {
+    → IsSearchOf start log now target n (record s { here = Some moment })
+kept start now log target n s lab moment way is = record {
   above = way.search.above;
   scan = way.search.scan;
   within = way.search.within;

@@ -5,6 +5,6 @@
 pub enum Goal {
     /// Where a statement begins and at most so many frames are live.
     Statement { depth: usize },
-    /// Where a breakpoint is met.
+    /// Where a breakpoint stops a run, with a condition or without one.
     Breakpoint,
 }

@@ -1,5 +1,5 @@
 //! Scans: a run made again, and tested on its way.
-ghost use Rattle.std.specs.Prelude.{◌≡◌, ◌≤◌, ◌<◌, ◌+◌, ◌==◌, ◌||◌, ◌&&◌, ℕ, List, Option, Some};
+ghost use Rattle.std.specs.Prelude.{◌≡◌, ◌≤◌, ◌<◌, ◌+◌, ◌==◌, ◌||◌, ◌&&◌, ℕ, List, [], Option, Some};
 ghost use Rattle.std.specs.Prelude.{IfOk, OnOk, if◌then◌else◌};
 ghost use Rattle.lab_image.specs.Addresses.{has};
 ghost use Rattle.lab_image.specs.Breakpoints.{is_met};
@@ -10,17 +10,19 @@ ghost use Rattle.lab_core.specs.Stops.{is_there};
 ghost use Rattle.lab_shown.specs.declared.step.Granularity.TheVariants.{Line};
 ghost use Rattle.lab_core.specs.Labs.{RepresentsBoard};
 ghost use Rattle.lab_core.specs.Marks.{first_mark, marks_after};
-ghost use Rattle.dap_history.specs.declared.goal.Goal.{Goal};
+ghost use Rattle.dap_slice.specs.declared.conditions.ConditionalBreakpoint.{ConditionalBreakpoint};
+ghost use Rattle.dap_slice.specs.Conditions.{is_any_at};
 ghost use Rattle.dap_history.specs.declared.input.Recorded.{Recorded};
 ghost use Rattle.dap_history.specs.Logs.{Ascends, later_than};
 ghost use Rattle.dap_history.specs.Runs.{IsWholeSlice, RunsDetached, OnlyRunChanges};
-ghost use Rattle.dap_history.specs.Searches.{is_goal, IsMarked, IsScanOf, Advances, stride_of};
+ghost use Rattle.dap_history.specs.Searches.{Target, is_goal, IsMarked, IsScanOf, Advances, stride_of};
 
 use crate::fault::ReplayFault;
 use crate::goal::Goal;
 use crate::input::Recorded;
 use crate::log::later;
 use crate::replay::{go_on, replay};
+use dap_slice::conditions::{ConditionalBreakpoint, ConditionalBreakpoints};
 use lab_core::answer::{Answer, SliceOutcome};
 use lab_core::fault::EventFault;
 use lab_core::lab::Lab;
@@ -31,7 +33,7 @@ use std::alloc::{AllocError, Global};
 #[derive(Drop)]
 pub struct Scan {
     pub goal: Goal,
-    /// Where breakpoints are met.
+    /// Where breakpoints are met, and where those with conditions are.
     pub marks: Marks,
     pub at: u64,
     pub best: Option<u64>,
@@ -50,9 +52,9 @@ fn mark(marks: &mut Marks, lab: &Lab, address: u16)
     }
 }
 
-/// Marks at all addresses where a breakpoint is met.
-pub(crate) fn marks_of(alloc: Global, lab: &Lab) -> Result<Marks, AllocError>
-    ensures { (b : Board) → RepresentsBoard lab.now b → IfOk result (IsMarked b) }
+// Marks at all addresses where a breakpoint is met.
+fn plain_marks(alloc: Global, lab: &Lab) -> Result<Marks, AllocError>
+    ensures { (b : Board) → RepresentsBoard lab.now b → IfOk result (IsMarked [] b) }
 {
     let mut marks = Marks::new(alloc)?;
     let mut next = 0u32;
@@ -60,6 +62,30 @@ pub(crate) fn marks_of(alloc: Global, lab: &Lab) -> Result<Marks, AllocError>
         mark(&mut marks, lab, next as u16);
         next += 1;
     }
+    Ok(marks)
+}
+
+// Marks the addresses of breakpoints with conditions too.
+fn mark_points(marks: &mut Marks, points: &[ConditionalBreakpoint])
+    ensures addresses { (a : ℕ) → has marks.new.addresses a
+        ≡ (has marks.old.addresses a || is_any_at points.now a) }
+    ensures rest { marks.new ≡ record marks.old { addresses = marks.new.addresses } }
+{
+    for point in points {
+        marks.add_address(point.address);
+    }
+}
+
+/// Marks at all addresses where a breakpoint is met or one with a condition is.
+pub(crate) fn marks_of(
+    alloc: Global,
+    lab: &Lab,
+    points: &ConditionalBreakpoints,
+) -> Result<Marks, AllocError>
+    ensures { (b : Board) → RepresentsBoard lab.now b → IfOk result (IsMarked points.now b) }
+{
+    let mut marks = plain_marks(alloc, lab)?;
+    mark_points(&mut marks, points.points());
     Ok(marks)
 }
 
@@ -73,13 +99,20 @@ fn begins_statement(lab: &Lab) -> bool
     }
 }
 
+/// Whether a breakpoint is met where the board is, or one of these stops a run that comes there.
+pub fn is_at_breakpoint(lab: &Lab, points: &ConditionalBreakpoints) -> bool
+    ensures { (b : Board) → RepresentsBoard lab.now b → result ≡ is_goal points.now Goal.Breakpoint b }
+{
+    lab.has_breakpoint_at(lab.regs().pc) || points.is_any_met(lab)
+}
+
 // Whether the board passes.
-fn is_goal(lab: &Lab, goal: Goal) -> bool
-    ensures { (b : Board) → RepresentsBoard lab.now b → result ≡ is_goal goal b }
+fn is_goal(lab: &Lab, points: &ConditionalBreakpoints, goal: Goal) -> bool
+    ensures { (b : Board) → RepresentsBoard lab.now b → result ≡ is_goal points.now goal b }
 {
     match goal {
         Goal::Statement { depth } => begins_statement(lab) && lab.frames().len() <= depth,
-        Goal::Breakpoint => lab.has_breakpoint_at(lab.regs().pc),
+        Goal::Breakpoint => is_at_breakpoint(lab, points),
     }
 }
 
@@ -150,8 +183,9 @@ fn slice_to(lab: &mut Lab, marks: &mut Marks, n: u16) -> Result<(u16, SliceOutco
 
 // Makes at most `n` steps, fewer if it comes to a mark, and returns how many.
 fn advance(lab: &mut Lab, marks: &mut Marks, n: u16) -> Result<u16, ReplayFault>
-    ensures ok { (was now : Board) → RunsDetached was now lab.old → IsMarked now marks.old
-        → IfOk result (λ k. Advances was now k marks.new lab.new) }
+    ensures ok { (points : List ConditionalBreakpoint) (was now : Board) → RunsDetached was now lab.old
+        → IsMarked points now marks.old
+        → IfOk result (λ k. Advances points was now k lab.new × IsMarked points now marks.new) }
     ensures few { IfOk result (λ k. (1 ≤ k) × (k ≤ n)) }
     ensures rest { OnlyRunChanges lab.old lab.new }
 {
@@ -167,27 +201,34 @@ fn advance(lab: &mut Lab, marks: &mut Marks, n: u16) -> Result<u16, ReplayFault>
 
 impl Scan {
     // Tests the board at the present count.
-    fn test(&mut self, lab: &Lab)
-        ensures best { (b : Board) → RepresentsBoard lab.now b
-            → self.new.best ≡ (if is_goal self.old.goal b then Some self.old.at else self.old.best) }
+    fn test(&mut self, lab: &Lab, points: &ConditionalBreakpoints)
+        ensures best { (b : Board) → RepresentsBoard lab.now b → self.new.best
+            ≡ (if is_goal points.now self.old.goal b then Some self.old.at else self.old.best) }
         ensures rest { self.new ≡ record self.old { best = self.new.best } }
     {
-        if is_goal(lab, self.goal) {
+        if is_goal(lab, points, self.goal) {
             self.best = Some(self.at);
         }
     }
 
     // Tests the board at the present count, and goes on to the next one to be tested, with the inputs there.
-    fn turn(&mut self, lab: &mut Lab, rest: &[Recorded], to: u64) -> Result<(), ReplayFault>
+    fn turn(
+        &mut self,
+        lab: &mut Lab,
+        points: &ConditionalBreakpoints,
+        rest: &[Recorded],
+        to: u64,
+    ) -> Result<(), ReplayFault>
         requires before { self.old.at < to }
         requires later { Ascends (self.old.at + 1) rest.now }
         ensures at { OnOk result ((self.old.at < self.new.at) × (self.new.at ≤ to)) }
-        ensures ok { (start now : Board) (log : List Recorded) (goal : Goal) (before : ℕ) → Ascends 0 log
-            → rest.now ≡ later_than self.old.at log → IsScanOf start log now goal before self.old lab.old
-            → OnOk result (IsScanOf start log now goal before self.new lab.new) }
+        ensures ok { (start now : Board) (log : List Recorded) (target : Target) (before : ℕ)
+            → Ascends 0 log → rest.now ≡ later_than self.old.at log → target.points ≡ points.now
+            → IsScanOf start log now target before self.old lab.old
+            → OnOk result (IsScanOf start log now target before self.new lab.new) }
         ensures rest { OnlyRunChanges lab.old lab.new }
     {
-        self.test(lab);
+        self.test(lab, points);
         let n = reach(rest, self.at, to - self.at, stride(self.goal));
         let k = advance(lab, &mut self.marks, n)?;
         self.at += u64::from(k);
@@ -195,24 +236,26 @@ impl Scan {
         Ok(())
     }
 
-    /// Goes on to a count of steps, with these inputs of the run on the way.
+    /// Goes on to a count of steps, with these inputs of the run on the way. The breakpoints must be those
+    /// with which it began.
     pub(crate) fn go_to(
         &mut self,
         lab: &mut Lab,
+        points: &ConditionalBreakpoints,
         log: &[Recorded],
         to: u64,
     ) -> Result<(), ReplayFault>
         requires before { self.old.at ≤ to }
         requires ascends { Ascends 0 log.now }
         ensures at { OnOk result (self.new.at ≡ to) }
-        ensures ok { (start now : Board) (goal : Goal) (before : ℕ)
-            → IsScanOf start log.now now goal before self.old lab.old
-            → OnOk result (IsScanOf start log.now now goal before self.new lab.new) }
+        ensures ok { (start now : Board) (target : Target) (before : ℕ) → target.points ≡ points.now
+            → IsScanOf start log.now now target before self.old lab.old
+            → OnOk result (IsScanOf start log.now now target before self.new lab.new) }
         ensures rest { OnlyRunChanges lab.old lab.new }
     {
         let mut rest = later(log, self.at);
         while self.at < to {
-            self.turn(lab, rest, to)?;
+            self.turn(lab, points, rest, to)?;
             rest = later(rest, self.at);
         }
         Ok(())

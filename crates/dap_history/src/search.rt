@@ -2,17 +2,18 @@
 ghost use Rattle.std.specs.Prelude.{◌≡◌, ◌≤◌, ℕ, List, None, IfOk, OnOk, OnErr, IfSome};
 ghost use Rattle.lab_core.specs.Board.{Board};
 ghost use Rattle.lab_core.specs.Labs.{RepresentsBoard};
-ghost use Rattle.dap_history.specs.declared.goal.Goal.{Goal};
+ghost use Rattle.lab_core.specs.Moments.{IsMomentOf};
 ghost use Rattle.dap_history.specs.declared.input.Recorded.{Recorded};
 ghost use Rattle.dap_history.specs.Runs.{board_at, KeepsRest, OnlyRunChanges};
 ghost use Rattle.dap_history.specs.Histories.{HasRun, ForEachRun, KeepsRestAndHistory};
-ghost use Rattle.dap_history.specs.Searches.{goal_below, IsSearchOf, SearchedOn, IsUnderWay};
-ghost use Rattle.dap_history.specs.Searches.{ForEachSearch};
+ghost use Rattle.dap_history.specs.Searches.{Target, goal_below, IsSearchOf, SearchedOn, IsUnderWay};
+ghost use Rattle.dap_history.specs.Searches.{ForEachSearch, ForEachSearchWith};
 
 use crate::fault::ReplayFault;
 use crate::goal::Goal;
 use crate::history::History;
 use crate::scan::{Scan, marks_of};
+use dap_slice::conditions::ConditionalBreakpoints;
 use lab_core::lab::Lab;
 use lab_core::lab::moments::Moment;
 use std::alloc::{AllocError, Global};
@@ -68,13 +69,19 @@ impl Search {
     /// # Errors
     ///
     /// If memory runs out the run isn't held, and nothing changes.
-    pub fn new(alloc: Global, lab: &mut Lab, goal: Goal, count: u64) -> Result<Search, AllocError>
+    pub fn new(
+        alloc: Global,
+        lab: &mut Lab,
+        points: &ConditionalBreakpoints,
+        goal: Goal,
+        count: u64,
+    ) -> Result<Search, AllocError>
         ensures ok { (start now : Board) (log : List Recorded) → RepresentsBoard lab.old now
-            → HasRun (board_at start log count) now
-            → IfOk result (λ search. SearchedOn start log now goal count None search lab.new) }
+            → HasRun (board_at start log count) now → IfOk result (λ search. SearchedOn start log now
+            (record { goal = goal; points = points.now }) count None search lab.new) }
         ensures err { OnErr result (lab.new ≡ lab.old) }
     {
-        let marks = marks_of(alloc, lab)?;
+        let marks = marks_of(alloc, lab, points)?;
         let home = lab.moment()?;
         lab.hold();
         Ok(Search {
@@ -94,7 +101,8 @@ impl Search {
     }
 
     /// Searches on, for about 65,536 steps, or 16,384 if it is for a statement. Returns the count that was
-    /// found, if it was: the run is held there then. Otherwise it is held where the search began.
+    /// found, if it was: the run is held there then. Otherwise it is held where the search began. The
+    /// breakpoints must be those with which it began.
     ///
     /// # Errors
     ///
@@ -104,14 +112,15 @@ impl Search {
         &mut self,
         history: &mut History,
         lab: &mut Lab,
+        points: &ConditionalBreakpoints,
     ) -> Result<Option<u64>, ReplayFault>
-        ensures ok { ForEachSearch history.old self.old lab.old (λ start now goal n. IfOk result
-            (λ found. SearchedOn start history.old.log now goal n found self.new lab.new)) }
+        ensures ok { ForEachSearchWith points.now history.old self.old lab.old (λ start now target n.
+            IfOk result (λ found. SearchedOn start history.old.log now target n found self.new lab.new)) }
         ensures rest { ForEachSearch history.old self.old lab.old
             (λ start now _ _. KeepsRestAndHistory history.old history.new lab.new start now) }
     {
         self.enter(history, lab)?;
-        self.go_farther(history, lab)?;
+        self.go_farther(history, lab, points)?;
         match self.found() {
             Some(count) => {
                 history.go_to(lab, count)?;
@@ -126,8 +135,8 @@ impl Search {
 
     // Makes the run go on from where the scan is, or from the low end of a new part.
     fn enter(&mut self, history: &mut History, lab: &mut Lab) -> Result<(), ReplayFault>
-        ensures ok { ForEachSearch history.old self.old lab.old (λ start now goal n. OnOk result
-            (IsUnderWay start history.old.log now goal n self.new lab.new)) }
+        ensures ok { ForEachSearch history.old self.old lab.old (λ start now target n. OnOk result
+            (IsUnderWay start history.old.log now target n self.new lab.new)) }
         ensures rest { ForEachSearch history.old self.old lab.old
             (λ start now _ _. KeepsRestAndHistory history.old history.new lab.new start now) }
     {
@@ -143,8 +152,8 @@ impl Search {
     // Makes the run go on from the low end of a new part.
     fn begin_below(&mut self, history: &mut History, lab: &mut Lab) -> Result<(), ReplayFault>
         requires { self.old.here ≡ None }
-        ensures ok { ForEachSearch history.old self.old lab.old (λ start now goal n. OnOk result
-            (IsUnderWay start history.old.log now goal n self.new lab.new)) }
+        ensures ok { ForEachSearch history.old self.old lab.old (λ start now target n. OnOk result
+            (IsUnderWay start history.old.log now target n self.new lab.new)) }
         ensures rest { ForEachRun history.old lab.old
             (KeepsRestAndHistory history.old history.new lab.new) }
     {
@@ -158,23 +167,29 @@ impl Search {
     }
 
     // Scans on for a time.
-    fn go_farther(&mut self, history: &History, lab: &mut Lab) -> Result<(), ReplayFault>
-        ensures ok { (start now : Board) (goal : Goal) (n : ℕ)
-            → IsUnderWay start history.now.log now goal n self.old lab.old
-            → OnOk result (IsUnderWay start history.now.log now goal n self.new lab.new) }
+    fn go_farther(
+        &mut self,
+        history: &History,
+        lab: &mut Lab,
+        points: &ConditionalBreakpoints,
+    ) -> Result<(), ReplayFault>
+        ensures ok { (start now : Board) (target : Target) (n : ℕ) → target.points ≡ points.now
+            → IsUnderWay start history.now.log now target n self.old lab.old
+            → OnOk result (IsUnderWay start history.now.log now target n self.new lab.new) }
+        ensures home { self.new.home ≡ self.old.home }
         ensures rest { OnlyRunChanges lab.old lab.new }
     {
         let most = self.scan.at.saturating_add(chunk(self.scan.goal));
         let to = self.high.min(most).max(self.scan.at);
-        self.scan.go_to(lab, history.entries(), to)?;
+        self.scan.go_to(lab, points, history.entries(), to)?;
         Ok(())
     }
 
     // The count that was found.
     fn found(&self) -> Option<u64>
-        ensures { (start now : Board) (log : List Recorded) (goal : Goal) (n : ℕ)
-            → IsSearchOf start log now goal n self.now
-            → IfSome result (λ m. m ≡ goal_below goal start log now n) }
+        ensures { (start now : Board) (log : List Recorded) (target : Target) (n : ℕ)
+            → IsSearchOf start log now target n self.now
+            → IfSome result (λ m. m ≡ goal_below target start log now n) }
     {
         if self.scan.at < self.high {
             return None;
@@ -190,11 +205,11 @@ impl Search {
 
     // Puts the run back to where the search began, and holds it there.
     fn pause(&mut self, lab: &mut Lab) -> Result<(), AllocError>
-        ensures ok { (start now : Board) (log : List Recorded) (goal : Goal) (n : ℕ)
-            → IsUnderWay start log now goal n self.old lab.old
-            → OnOk result (SearchedOn start log now goal n None self.new lab.new) }
-        ensures rest { (start now b : Board) (log : List Recorded) (goal : Goal) (n : ℕ)
-            → IsSearchOf start log now goal n self.old → RepresentsBoard lab.old b → KeepsRest b lab.new }
+        ensures ok { (start now : Board) (log : List Recorded) (target : Target) (n : ℕ)
+            → IsUnderWay start log now target n self.old lab.old
+            → OnOk result (SearchedOn start log now target n None self.new lab.new) }
+        ensures rest { (was b : Board) → IsMomentOf self.old.home was → RepresentsBoard lab.old b
+            → KeepsRest b lab.new }
     {
         self.keep_place(lab)?;
         lab.put_back(&self.home)?;
@@ -204,9 +219,9 @@ impl Search {
 
     // Keeps the moment at which the scan is; or, if it has come to its end, goes below its low end.
     fn keep_place(&mut self, lab: &Lab) -> Result<(), AllocError>
-        ensures ok { (start now : Board) (log : List Recorded) (goal : Goal) (n : ℕ)
-            → IsUnderWay start log now goal n self.old lab.now
-            → OnOk result (IsSearchOf start log now goal n self.new) }
+        ensures ok { (start now : Board) (log : List Recorded) (target : Target) (n : ℕ)
+            → IsUnderWay start log now target n self.old lab.now
+            → OnOk result (IsSearchOf start log now target n self.new) }
         ensures home { self.new.home ≡ self.old.home }
     {
         if self.scan.at < self.high {

@@ -150,6 +150,105 @@ fn no_moment_has_more_unread_bytes(rt: HostRuntime) -> Result<(), AllocError> {
     check(&rt, &[MORE_UNREAD])
 }
 
+/// X is reached at 0, 2, 4, .., with one more in A each time: it is 5 at 10.
+const ONCE: &str = "\
+X: INR A
+JMP X
+--
+most 7
++skip 80
++when 0 A==5
++find b 10
++goto 11
++find b 10
++goto 10
++find b 0
+";
+
+/// A condition that is 0 never stops the run. One that has no value stops it wherever it is asked, as B is 0,
+/// and so does one that is any other number.
+const VALUES: &str = "\
+X: INR A
+JMP X
+--
+most 7
++skip 80
++when 0 0
++when 0 A GT 40
++find b 0
++when 0 A==300 || A==3
++goto 80
++find b 6
++when 1 1/B
++goto 80
++find b 79
++goto 79
++find b 77
++when 0 A && $==X
++goto 79
++find b 78
+";
+
+/// Of two breakpoints at an address each stops the run, as a plain one does at 1, 3, 5, ..
+const TOGETHER: &str = "\
+X: INR A
+JMP X
+--
+most 7
++skip 80
++when 0 A==5
++when 0 A==9
++goto 80
++find b 18
++goto 18
++find b 10
++break 2
++goto 80
++find b 79
++goto 11
++find b 10
++goto 10
++find b 9
+";
+
+/// The byte at V is one more at 2, 5, 8, .., where the JMP is reached. A condition is asked of the run as it
+/// was then: at 80 the byte is 27. A step back by a statement doesn't ask it.
+const READS: &str = "\
+X: INR A
+STA V
+JMP X
+V: DB 0
+--
+most 7
++skip 80
++when 4 [V]==3
++find b 8
++goto 80
++find 0 79
+";
+
+/// Y is reached at 512, 1,026, 1,540, .., with one more in B each time: it is 3 at 2,054, and again at
+/// 133,638. From 130,000, 64, 512, 4,096 and 32,768 steps are searched, with four pauses, and then all 92,560
+/// from the start, 65,536 at a time.
+const FAR_CONDITION: &str = "\
+X: INR A
+JNZ X
+Y: INR B
+JMP X
+--
+most 4096
++skip 134000
++when 4 B==3
++find b 133638
++goto 130000
++find b 2054 5
+";
+
+#[test]
+fn searches_find_conditions(rt: HostRuntime) -> Result<(), AllocError> {
+    check(&rt, &[ONCE, VALUES, TOGETHER, READS, FAR_CONDITION])
+}
+
 /// Inputs that are cut after a count: it, how many are later, and how many are left.
 const CUTS: &str = "\
 NOP

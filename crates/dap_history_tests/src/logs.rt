@@ -3,7 +3,8 @@ use crate::inputs::typed;
 use crate::play::Live;
 use dap_history::fault::LogFault;
 use dap_history::laws::{
-    back_and_forth, log_splits, moments_are_near, run_goes_on, run_is_made_again,
+    back_and_forth, conditions_only_add, log_splits, moments_are_near, run_goes_on,
+    run_is_made_again,
 };
 use dap_history::log::Log;
 use dap_history::saved::{UNIT, stays};
@@ -61,4 +62,5 @@ fn laws_can_be_called() {
     log_splits();
     moments_are_near();
     back_and_forth();
+    conditions_only_add();
 }

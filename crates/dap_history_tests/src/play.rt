@@ -6,17 +6,19 @@ use crate::inputs::change;
 use crate::seen::{Notes, note};
 use dap_history::history::History;
 use dap_history::log::Log;
+use dap_slice::conditions::ConditionalBreakpoints;
 use lab_core::event::Event;
 use lab_core::lab::Lab;
 use lab_test_kit::script::{load_text, tell_event};
 use std::alloc::{AllocError, Global};
 
-/// A run with its history, and a log.
+/// A run with its history, a log, and breakpoints with conditions.
 #[derive(Drop)]
 pub struct Live {
     pub lab: Lab,
     pub history: History,
     pub log: Log,
+    pub points: ConditionalBreakpoints,
     pub alloc: Global,
     /// How many steps it has made.
     pub count: u64,
@@ -56,12 +58,14 @@ fn history_of(alloc: Global, lab: &Lab) -> Result<History, AllocError> {
 
 // A run that begins, with its history.
 fn begin_live(alloc: Global, text: &str, is_plain: bool) -> Result<Live, AllocError> {
+    let points = ConditionalBreakpoints::new(alloc)?;
     let lab = begin(alloc, text)?;
     match history_of(alloc, &lab) {
         Ok(history) => Ok(Live {
             lab,
             history,
             log: Log::new(alloc),
+            points,
             alloc,
             count: 0,
             most: 97,

@@ -2,9 +2,12 @@
 use crate::acts::{is_answered, is_there};
 use crate::play::Live;
 use crate::seen::{Notes, Seen, see};
+use asm_syntax::fault::LineFault;
+use dap_expr::expression::Expression;
 use dap_history::fault::ReplayFault;
 use dap_history::goal::Goal;
 use dap_history::search::Search;
+use dap_slice::conditions::ConditionalBreakpoint;
 use lab_test_kit::script::set_breakpoints;
 use std::alloc::AllocError;
 
@@ -12,6 +15,32 @@ use std::alloc::AllocError;
 pub fn set_line(live: &mut Live, line: u64) -> Result<bool, AllocError> {
     match set_breakpoints(live.alloc, "p", &[(line & 0xffff) as u32])? {
         Some(event) => is_answered(live, event, "line "),
+        None => Ok(false),
+    }
+}
+
+// Adds a breakpoint with a condition.
+fn push_condition(live: &mut Live, address: u16, text: &str) -> Result<bool, AllocError> {
+    let condition = match Expression::parse(live.alloc, text) {
+        Ok(condition) => condition,
+        Err(LineFault::OutOfMemory) => return Err(AllocError),
+        Err(LineFault::At { .. }) => return Ok(false),
+    };
+    live.points.push(ConditionalBreakpoint {
+        address,
+        condition: Some(condition),
+        log: None,
+    })?;
+    Ok(true)
+}
+
+/// Adds a breakpoint with a condition, as an address and the condition's text say.
+pub fn set_condition(live: &mut Live, line: &str) -> Result<bool, AllocError> {
+    match line.split_once(" ") {
+        Some((word, text)) => match word.parse() {
+            Ok(address) => push_condition(live, address, text),
+            Err(_) => Ok(false),
+        },
         None => Ok(false),
     }
 }
@@ -29,10 +58,10 @@ pub fn goal_of(depth: u64) -> Goal {
 
 // Begins a search where the run is, at the second try if the first finds no memory.
 fn search_of(live: &mut Live, goal: Goal) -> Result<Search, AllocError> {
-    if let Ok(search) = Search::new(live.alloc, &mut live.lab, goal, live.count) {
+    if let Ok(search) = Search::new(live.alloc, &mut live.lab, &live.points, goal, live.count) {
         return Ok(search);
     }
-    Search::new(live.alloc, &mut live.lab, goal, live.count)
+    Search::new(live.alloc, &mut live.lab, &live.points, goal, live.count)
 }
 
 // Searches on to the end. Gives the count that it found, and how often it let other requests be answered.
@@ -40,7 +69,7 @@ fn search_of(live: &mut Live, goal: Goal) -> Result<Search, AllocError> {
 fn finish(live: &mut Live, search: &mut Search) -> Result<Option<(u64, u64)>, AllocError> {
     let seen = see(&live.lab);
     for pauses in 0..1000 {
-        match search.go_on(&mut live.history, &mut live.lab) {
+        match search.go_on(&mut live.history, &mut live.lab, &live.points) {
             Ok(Some(count)) => return Ok(Some((count, pauses))),
             Ok(None) => {
                 if see(&live.lab) != seen {

@@ -2,9 +2,10 @@
 use Rattle.std.proofs.Common.{◌≡◌, ◌∙◌, ◌<◌, ◌≤◌, ℕ, zero, suc, Bool, true, false, Some, refl, sym, ap, subst}
 use Rattle.std.proofs.Common.{if◌then◌else◌, inl, inr, arith}
 use Rattle.std.proofs.lemmas.Bool.{cases_lt}
-use Rattle.lab_core.specs.Board.{Board}
 use Rattle.dap_history.specs.declared.goal.Goal.{Goal}
 use Rattle.dap_history.specs.Searches.{last_below, passes}
+use Rattle.dap_session.specs.States.{SessionState}
+use Rattle.dap_session.specs.Rewinds.{target_for}
 use Rattle.dap_record.specs.Recordings.{Recording, RecordedState}
 use Rattle.dap_record.specs.Backward.{found_by}
 use Rattle.dap_record.specs.Slices.{found_from, finding, slice_told}
@@ -57,14 +58,14 @@ last_is test (suc n) =
 
 -- ---- a search
 
-pub found_within : (goal : Goal) (r : Recording) (b : Board) → found_by goal r b ≤ r.count
-found_within goal r b = last_within (passes goal r.start r.log b) r.count
+pub found_within : (goal : Goal) (r : Recording) (s : SessionState) → found_by goal r s ≤ r.count
+found_within goal r s = last_within (passes (target_for goal s) r.start r.log s.board) r.count
 
 found_meets : (goal : Goal) (r : Recording) (v : RecordedState)
     → MeetsGoal goal r v.session (found_from r goal v.session)
 found_meets goal r v = record {
-  count = found_by goal r v.session.board;
-  last = last_is (passes goal r.start r.log v.session.board) r.count;
+  count = found_by goal r v.session;
+  last = last_is (passes (target_for goal v.session) r.start r.log v.session.board) r.count;
   messages = refl;
   state = refl;
 }

@@ -195,7 +195,7 @@ sliced finds v of =
           (recording_in v r is of);
       searches = λ goal on. of;
       finds = λ goal r on is.
-          put_back r (found_by goal r v.session.board) v.session (found_within goal r v.session.board)
+          put_back r (found_by goal r v.session) v.session (found_within goal r v.session)
           (recording_in v r is of);
     })
 

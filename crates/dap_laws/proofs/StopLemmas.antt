@@ -258,7 +258,7 @@ follows_slice finds v stands =
           follows_recorded (slice_end_in (slice_limit r) s) r s stands.reached wants;
       searches = λ goal on. (still s s stands.reached refl).follows;
       finds = λ goal r on is.
-          follows_stopped _ (board_at r.start r.log (found_by goal r s.board)) s stands.reached
+          follows_stopped _ (board_at r.start r.log (found_by goal r s)) s stands.reached
           (recording_in v r is stands.recording).can;
     })
 

@@ -17,7 +17,7 @@ use Rattle.dap_program.specs.declared.messages.RequestId.{RequestId}
 use Rattle.dap_program.specs.declared.messages.FollowUp.TheVariants.{Stopped}
 use Rattle.dap_program.specs.Messages.{as_messages, events_of}
 use Rattle.dap_session.specs.States.{SessionState, wants_slice, with_waits, has_watch_commands}
-use Rattle.dap_session.specs.Rewinds.{can_go_back, rewound}
+use Rattle.dap_session.specs.Rewinds.{can_go_back, rewound, target_for}
 use Rattle.dap_session.specs.Slices.{Told, caller_of}
 use Rattle.dap_session.specs.Laws.{SameParts, LeavesAll, written_in, asks_to_load, has_run, has_begun}
 use Rattle.dap_session.specs.Laws.{events_in, ends_told, ends_between}
@@ -66,8 +66,8 @@ pub record IsLastBelow (test : ℕ → Bool) (n count : ℕ) : Type 0 where
 -- editor is told why it is stopped there.
 pub record MeetsGoal (goal : Goal) (r : Recording) (s : SessionState) (t : RecordedTold) : Type 0 where
   pub count : ℕ
-  pub last : IsLastBelow (passes goal r.start r.log s.board) r.count count
-  pub messages : t.messages ≡ as_messages (events_of (Stopped (stop_found goal r s.board count)))
+  pub last : IsLastBelow (passes (target_for goal s) r.start r.log s.board) r.count count
+  pub messages : t.messages ≡ as_messages (events_of (Stopped (stop_found goal r s count)))
   pub state : t.state ≡ record {
     session = rewound (board_at r.start r.log count) s;
     recording = Some (record r { count = count });

@@ -1,6 +1,5 @@
 -- Parts of a search backward.
 use Rattle.std.proofs.Common.{◌≡◌, ◌∙◌, ℕ, List, [], Bool, true, false, Some, None, sym, ap, subst}
-use Rattle.lab_core.specs.Board.{Board}
 use Rattle.dap_messages.specs.declared.message.EditorStop.{EditorStop}
 use Rattle.dap_messages.specs.declared.message.Message.{Message}
 use Rattle.dap_history.specs.declared.goal.Goal.{Goal}
@@ -12,7 +11,7 @@ use Rattle.dap_program.specs.declared.messages.FollowUp.TheVariants.{Stopped}
 use Rattle.dap_program.specs.Messages.{as_messages, events_of}
 use Rattle.dap_session.specs.States.{SessionState, with_board}
 use Rattle.dap_session.specs.Represents.{SessionFields, RepresentsSession}
-use Rattle.dap_session.specs.Rewinds.{rewound, SearchedFurther}
+use Rattle.dap_session.specs.Rewinds.{rewound, SearchedFurther, target_for}
 use Rattle.dap_record.specs.Fields.{RecordingFields, GoalSearchFields, RecordedFields}
 use Rattle.dap_record.specs.Recordings.{Recording, RecordedState}
 use Rattle.dap_record.specs.Backward.{found_by, met_or_entry, stop_found}
@@ -21,9 +20,10 @@ use Rattle.dap_record.specs.Represents.{RepresentsRecording, IsSearchFor, Tells}
 use Rattle.dap_record.proofs.TravelLemmas.{recorded_at}
 
 -- a breakpoint is met there, or not
-pub stop_by : (goal : Goal) (r : Recording) (b : Board) (found : ℕ) (met : Bool) → goal ≡ Breakpoint
-    → met ≡ passes Breakpoint r.start r.log b found → met_or_entry met ≡ stop_found goal r b found
-stop_by goal r b found met is same = ap met_or_entry same ∙ ap (λ g. stop_found g r b found) (sym is)
+pub stop_by : (goal : Goal) (r : Recording) (s : SessionState) (found : ℕ) (met : Bool) → goal ≡ Breakpoint
+    → met ≡ passes (target_for Breakpoint s) r.start r.log s.board found
+    → met_or_entry met ≡ stop_found goal r s found
+stop_by goal r s found met is same = ap met_or_entry same ∙ ap (λ g. stop_found g r s found) (sym is)
 
 -- the recorded session with this search
 abbrev pub searching : Goal → Recording → SessionState → RecordedState
@@ -73,8 +73,8 @@ not_found goal r s v v' u search session messages recording is keeps count_is to
                   record {
                     goal_is = is.goal_is;
                     search =
-                        subst (λ l. IsSearchOf r.start l s.board goal r.count search) recording.log
-                        searched.0;
+                        subst (λ l. IsSearchOf r.start l s.board (target_for goal s) r.count search)
+                        recording.log searched.0;
                     rewound = is.rewound;
                   };
             };
@@ -92,17 +92,17 @@ at_found goal r s v m search session recording searched =
 pub was_found : (goal : Goal) (r : Recording) (s : SessionState) (v v' : RecordingFields) (m : ℕ)
     (search : SearchState) (session : SessionFields) (messages : List Message) (stop : EditorStop)
     → RepresentsRecording v r s → KeepsHistory r.start v.history v'.history → v'.count ≡ m → v'.told ≡ v.told
-    → messages ≡ as_messages (events_of (Stopped stop)) → stop ≡ stop_found goal r s.board m
+    → messages ≡ as_messages (events_of (Stopped stop)) → stop ≡ stop_found goal r s m
     → SearchedFurther goal r.start v.history.log r.count s (Some m) search session
     → TellsPart goal r s messages (record { session = session; recording = Some v'; search = None })
 was_found goal r s v v' m search session messages stop recording keeps count_is told_is says why searched =
-    let found : m ≡ found_by goal r s.board =
-    searched.0 ∙ ap (λ l. goal_below goal r.start l s.board r.count) recording.log in (
+    let found : m ≡ found_by goal r s =
+    searched.0 ∙ ap (λ l. goal_below (target_for goal s) r.start l s.board r.count) recording.log in (
       true,
       record {
         messages_are =
             says
-            ∙ ap (λ x. as_messages (events_of (Stopped x))) (why ∙ ap (λ n. stop_found goal r s.board n)
+            ∙ ap (λ x. as_messages (events_of (Stopped x))) (why ∙ ap (λ n. stop_found goal r s n)
             found);
         represents =
             record {
@@ -110,7 +110,7 @@ was_found goal r s v v' m search session messages stop recording keeps count_is 
                   subst (λ n. RepresentsSession session (rewound (board_at r.start r.log n) s)) found
                   (at_found goal r s v m search session recording searched);
               recording =
-                  recorded_at v v' r s (found_by goal r s.board) recording keeps (count_is ∙ found) told_is;
+                  recorded_at v v' r s (found_by goal r s) recording keeps (count_is ∙ found) told_is;
               search = tt;
             };
       },

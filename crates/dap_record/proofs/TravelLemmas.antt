@@ -21,7 +21,7 @@ use Rattle.dap_session.specs.States.{SessionState}
 use Rattle.dap_session.specs.Memory.{is_stopped}
 use Rattle.dap_session.specs.Represents as sessions
 use Rattle.dap_session.specs.Represents.{SessionFields, RepresentsSession}
-use Rattle.dap_session.specs.Rewinds.{can_go_back, is_debugged, rewound, BeginsSearch}
+use Rattle.dap_session.specs.Rewinds.{can_go_back, is_debugged, rewound, BeginsSearch, target_for}
 use Rattle.dap_session.specs.Laws.{has_run, has_begun, is_begun}
 use Rattle.dap_record.specs.declared.back.Back.{Back}
 use Rattle.dap_record.specs.declared.back.Back.TheVariants as back
@@ -104,8 +104,9 @@ arrives c r s v v' session body h none recording keeps count_is told_is body_is 
 
 -- the search is the same on a board that was put back, since all but the run is the same there
 searches_held : (goal : Goal) (r : Recording) (s : SessionState) (v : SearchState)
-    → IsSearchOf r.start r.log s.board goal r.count v
-    → IsSearchOf r.start r.log (after_rewind (board_at r.start r.log r.count) s.board) goal r.count v
+    → IsSearchOf r.start r.log s.board (target_for goal s) r.count v
+    → IsSearchOf r.start r.log (after_rewind (board_at r.start r.log r.count) s.board) (target_for goal s)
+    r.count v
 searches_held goal r s v search = record {
   above = search.above;
   scan =

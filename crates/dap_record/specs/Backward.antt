@@ -27,7 +27,7 @@ use Rattle.dap_session.specs.States.{SessionState}
 use Rattle.dap_session.specs.Turns.{Replied, refusing, succeeding}
 use Rattle.dap_inputs.specs.Prompt.{behind}
 use Rattle.dap_session.specs.Memory.{is_stopped}
-use Rattle.dap_session.specs.Rewinds.{can_go_back, rewound}
+use Rattle.dap_session.specs.Rewinds.{can_go_back, rewound, target_for}
 use Rattle.dap_record.specs.declared.back.Back.{Back}
 use Rattle.dap_record.specs.declared.back.Back.TheVariants as back
 use Rattle.dap_record.specs.Recordings.{Recording, RecordedState}
@@ -89,17 +89,17 @@ stop_at_count back.Start = Entry
 stop_at_count other = AtBoard reason.Step
 
 -- where a search leads
-abbrev pub found_by : Goal → Recording → Board → ℕ
-found_by goal r b = goal_below goal r.start r.log b r.count
+abbrev pub found_by : Goal → Recording → SessionState → ℕ
+found_by goal r s = goal_below (target_for goal s) r.start r.log s.board r.count
 
 -- the run is at a breakpoint there, or at its start
 abbrev pub met_or_entry : Bool → EditorStop
 met_or_entry true = AtBoard reason.Breakpoint
 met_or_entry false = Entry
 
-abbrev pub stop_found : Goal → Recording → Board → ℕ → EditorStop
-stop_found (Statement depth) r b count = AtBoard reason.Step
-stop_found Breakpoint r b count = met_or_entry (passes Breakpoint r.start r.log b count)
+abbrev pub stop_found : Goal → Recording → SessionState → ℕ → EditorStop
+stop_found (Statement depth) r s count = AtBoard reason.Step
+stop_found Breakpoint r s count = met_or_entry (passes (target_for Breakpoint s) r.start r.log s.board count)
 
 -- ---- the reply
 

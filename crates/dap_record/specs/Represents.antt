@@ -12,7 +12,7 @@ use Rattle.dap_launch.specs.declared.reply.Reply.{Reply}
 use Rattle.dap_session.specs.States.{SessionState}
 use Rattle.dap_session.specs.Represents.{SessionFields, RepresentsSession}
 use Rattle.dap_inputs.specs.Inputs.{is_success}
-use Rattle.dap_session.specs.Rewinds.{can_go_back}
+use Rattle.dap_session.specs.Rewinds.{can_go_back, target_for}
 use Rattle.dap_session.specs.Laws.{SameParts}
 use Rattle.dap_record.specs.declared.back.Back.{Back}
 use Rattle.dap_record.specs.declared.slice.RecordedSlice.{RecordedSlice}
@@ -42,7 +42,7 @@ RepresentsRecordingIf (Some v) None s = ⊥
 -- The search is for this goal, below where the run is; the run was put there when it began.
 pub record IsSearchFor (goal : Goal) (r : Recording) (s : SessionState) (v : GoalSearchFields) : Type 0 where
   pub goal_is : v.goal ≡ goal
-  pub search : IsSearchOf r.start r.log s.board goal r.count v.search
+  pub search : IsSearchOf r.start r.log s.board (target_for goal s) r.count v.search
   pub rewound : s.board ≡ after_rewind (board_at r.start r.log r.count) s.board
 
 abbrev pub RepresentsSearchIf : Option GoalSearchFields → Option Goal → Option Recording → SessionState →

@@ -96,9 +96,9 @@ run_told v =
 -- the run is put to where the search leads
 abbrev pub found_from : Recording → Goal → SessionState → RecordedTold
 found_from r goal s =
-    let count = found_by goal r s.board in
+    let count = found_by goal r s in
     record {
-      messages = as_messages (events_of (Stopped (stop_found goal r s.board count)));
+      messages = as_messages (events_of (Stopped (stop_found goal r s count)));
       state =
           record {
             session = rewound (board_at r.start r.log count) s;

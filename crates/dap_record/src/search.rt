@@ -46,7 +46,7 @@ pub(crate) struct SearchPart {
 fn stop_found(session: &Session, goal: Goal) -> EditorStop
     ensures { (r : Recording) (s : SessionState) (found : ℕ)
         → RepresentsSession session.now (rewound (board_at r.start r.log found) s)
-        → result ≡ stop_found goal r s.board found }
+        → result ≡ stop_found goal r s found }
 {
     match goal {
         Goal::Statement { .. } => EditorStop::Board(StopReason::Step),

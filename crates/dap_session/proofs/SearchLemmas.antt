@@ -9,10 +9,11 @@ use Rattle.dap_history.specs.declared.input.Recorded.{Recorded}
 use Rattle.dap_history.specs.Runs.{board_at, after_rewind}
 use Rattle.dap_history.specs.Histories.{HistoryState, IsHistoryOf, HasRunOf, KeepsHistory, SavesIf}
 use Rattle.dap_history.specs.Histories.{is_due, unread}
-use Rattle.dap_history.specs.Searches.{SearchState, SearchedOn}
+use Rattle.dap_history.specs.Searches.{SearchState, Target, IsSearchOf, SearchedOn}
 use Rattle.dap_session.specs.States.{SessionState, with_board}
 use Rattle.dap_session.specs.Represents.{SessionFields, RepresentsSession}
 use Rattle.dap_session.specs.Rewinds.{IsRunAt, BeginsSearch, SearchedFurther, after_release, rewound}
+use Rattle.dap_session.specs.Rewinds.{target_for}
 use Rattle.dap_session.specs.declared.settings.SessionSettings.{SessionSettings}
 
 -- ---- moments that are saved
@@ -64,20 +65,26 @@ released_at was s new lab settings is same board =
     subst (λ (v : SessionFields). RepresentsSession v (rewound was s)) (sym is)
     (record { board = board; settings = ap after_release same })
 
+-- what it looks for with these settings
+abbrev pub target_in : Goal → SessionSettings → Target
+target_in goal settings = record { goal = goal; points = settings.conditional }
+
 pub begins_so : (goal : Goal) (start : Board) (log : List Recorded) (count : ℕ) (s : SessionState)
     (search : SearchState) (new : SessionFields) (lab : LabState) (settings : SessionSettings)
     → new ≡ record { lab = lab; settings = after_release settings } → settings ≡ s.settings
-    → SearchedOn start log s.board goal count None search lab
+    → SearchedOn start log s.board (target_in goal settings) count None search lab
     → BeginsSearch goal start log count s search new
 begins_so goal start log count s search new lab settings is same searched = record {
-  search = searched.0;
+  search =
+      subst (λ (t : SessionSettings). IsSearchOf start log s.board (target_in goal t) count search) same
+      searched.0;
   represents = released_at (board_at start log count) s new lab settings is same searched.1;
 }
 
 pub found_so : (goal : Goal) (start : Board) (log : List Recorded) (n m : ℕ) (s : SessionState)
     (search : SearchState) (new : SessionFields) (lab : LabState) (settings : SessionSettings)
     → new ≡ record { lab = lab; settings = after_release settings } → settings ≡ s.settings
-    → SearchedOn start log s.board goal n (Some m) search lab
+    → SearchedOn start log s.board (target_for goal s) n (Some m) search lab
     → SearchedFurther goal start log n s (Some m) search new
 found_so goal start log n m s search new lab settings is same searched =
     (searched.0, released_at (board_at start log m) s new lab settings is same searched.1)
@@ -85,7 +92,7 @@ found_so goal start log n m s search new lab settings is same searched =
 pub goes_on_so : (goal : Goal) (start : Board) (log : List Recorded) (n : ℕ) (s : SessionState)
     (search : SearchState) (new : SessionFields) (lab : LabState) (settings : SessionSettings)
     → new ≡ record { lab = lab; settings = settings } → settings ≡ s.settings
-    → SearchedOn start log s.board goal n None search lab
+    → SearchedOn start log s.board (target_for goal s) n None search lab
     → SearchedFurther goal start log n s None search new
 goes_on_so goal start log n s search new lab settings is same searched = (
   searched.0,

@@ -4,7 +4,7 @@ use Rattle.lab_core.specs.Board.{Board}
 use Rattle.dap_history.specs.declared.goal.Goal.{Goal}
 use Rattle.dap_history.specs.declared.input.Recorded.{Recorded}
 use Rattle.dap_history.specs.Histories.{HistoryState, IsHistoryOf, KeepsHistory}
-use Rattle.dap_history.specs.Searches.{SearchState, IsSearchOf, goal_below}
+use Rattle.dap_history.specs.Searches.{SearchState, Target, IsSearchOf, goal_below}
 use Rattle.dap_history.specs.Runs.{board_at, after_rewind}
 use Rattle.dap_launch.specs.declared.program.Program.{Program}
 use Rattle.dap_launch.specs.Lives.{released_program}
@@ -52,6 +52,10 @@ abbrev pub ForEachRun : HistoryState → SessionFields → (Board → SessionSta
 ForEachRun h v P = (start : Board) (s : SessionState) → IsHistoryOf start h → RepresentsSession v s → P
     start s
 
+-- what a search of the session's run looks for: a breakpoint may be one of its own with a condition
+abbrev pub target_for : Goal → SessionState → Target
+target_for goal s = record { goal = goal; points = s.settings.conditional }
+
 -- the search is of a session's run with this history
 pub record IsSearched (h : HistoryState) (search : SearchState) (v : SessionFields) : Type 0 where
   pub start : Board
@@ -60,20 +64,22 @@ pub record IsSearched (h : HistoryState) (search : SearchState) (v : SessionFiel
   pub n : ℕ
   pub history : IsHistoryOf start h
   pub represents : RepresentsSession v s
-  pub is : IsSearchOf start h.log s.board goal n search
+  pub is : IsSearchOf start h.log s.board (target_for goal s) n search
 
 -- a search began where such a run is, and holds it there
 pub record BeginsSearch (goal : Goal) (start : Board) (log : List Recorded) (count : ℕ) (s : SessionState)
     (v : SearchState) (new : SessionFields) : Type 0 where
-  pub search : IsSearchOf start log s.board goal count v
+  pub search : IsSearchOf start log s.board (target_for goal s) count v
   pub represents : RepresentsSession new (rewound (board_at start log count) s)
 
 -- A search went on: the run is held where it began, or it is put to the count that was found.
 abbrev pub SearchedFurther : Goal → Board → List Recorded → ℕ → SessionState → Option ℕ → SearchState
     → SessionFields → Type 0
-SearchedFurther goal start log n s None search new = IsSearchOf start log s.board goal n search
+SearchedFurther goal start log n s None search new =
+    IsSearchOf start log s.board (target_for goal s) n search
     × RepresentsSession new (with_board (after_rewind (board_at start log n) s.board) s)
-SearchedFurther goal start log n s (Some m) search new = (m ≡ goal_below goal start log s.board n)
+SearchedFurther goal start log n s (Some m) search new =
+    (m ≡ goal_below (target_for goal s) start log s.board n)
     × RepresentsSession new (rewound (board_at start log m) s)
 
 -- so it is for each search of a session's run that goes on
@@ -82,4 +88,4 @@ abbrev pub ForEachSearch : HistoryState → SearchState → SessionFields
     → Type 0
 ForEachSearch h search v P =
     (start : Board) (s : SessionState) (goal : Goal) (n : ℕ) → IsHistoryOf start h → RepresentsSession v s
-    → IsSearchOf start h.log s.board goal n search → P start s goal n
+    → IsSearchOf start h.log s.board (target_for goal s) n search → P start s goal n

@@ -18,6 +18,7 @@ use dap_history::goal::Goal;
 use dap_history::history::History;
 use dap_history::input::Input;
 use dap_history::replay::redo;
+use dap_history::scan::is_at_breakpoint;
 use dap_history::search::Search;
 use dap_launch::life::release_program;
 use dap_launch::program::{Phase, Program};
@@ -75,12 +76,12 @@ impl Session {
         self.lab.frames().len()
     }
 
-    /// Whether a breakpoint is at PC.
+    /// Whether a breakpoint stops a run that comes to where this one is.
     pub fn is_at_breakpoint(&self) -> bool
         ensures { (s : SessionState) → RepresentsSession self.now s
-            → result ≡ is_goal Goal.Breakpoint s.board }
+            → result ≡ is_goal s.settings.conditional Goal.Breakpoint s.board }
     {
-        self.lab.has_breakpoint_at(self.lab.regs().pc)
+        is_at_breakpoint(&self.lab, &self.settings.conditional)
     }
 
     /// The history of a run that begins now.
@@ -138,7 +139,13 @@ impl Session {
             → SameParts (board_at start log count) s.board
             → IfOk result (λ search. BeginsSearch goal start log count s search self.new) }
     {
-        let search = Search::new(alloc, &mut self.lab, goal, count)?;
+        let search = Search::new(
+            alloc,
+            &mut self.lab,
+            &self.settings.conditional,
+            goal,
+            count,
+        )?;
         self.release();
         Ok(search)
     }
@@ -155,7 +162,7 @@ impl Session {
             KeepsHistory start history.old history.new
             × SearchedFurther goal start history.old.log n s found search.new self.new)) }
     {
-        match search.go_on(history, &mut self.lab) {
+        match search.go_on(history, &mut self.lab, &self.settings.conditional) {
             Ok(Some(found)) => {
                 self.release();
                 Ok(Some(found))

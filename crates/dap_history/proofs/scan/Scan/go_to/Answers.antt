@@ -26,8 +26,8 @@ loop-self-preserved c =
       rest = c.later-rest-in-loop-self.ensures ∙ ap (later_than c.turn.new.self.at) inv.rest
           ∙ later_later c.turn.new.self.at c.loop-self.self.at log (omega (arith, on));
       within = c.in_ok-turn.ensures.at.1;
-      scans = λ start now goal before scan.
-          c.in_ok-turn.ensures.ok start now log goal before c.requires.ascends inv.rest
-          (inv.scans start now goal before scan);
+      scans = λ start now target before points scan.
+          c.in_ok-turn.ensures.ok start now log target before c.requires.ascends inv.rest points
+          (inv.scans start now target before points scan);
       changes = in_turn _ _ _ inv.changes c.turn.ensures.rest;
     }

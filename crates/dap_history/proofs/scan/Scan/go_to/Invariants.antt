@@ -1,18 +1,17 @@
 use Rattle.std.proofs.Common.{◌≡◌, ◌≤◌, ◌-◌, ℕ}
 use Rattle.lab_core.specs.Board.{Board}
-use Rattle.dap_history.specs.declared.goal.Goal.{Goal}
 use Rattle.dap_history.specs.Logs.{later_than}
 use Rattle.dap_history.specs.Runs.{OnlyRunChanges}
-use Rattle.dap_history.specs.Searches.{IsScanOf}
+use Rattle.dap_history.specs.Searches.{Target, IsScanOf}
 use Rattle.dap_history.proofs.scan.Scan.go_to.Given as goal
 
 abbrev pub invariant-loop-self : goal.invariant-loop-self
 invariant-loop-self l = record {
   rest : l.rest ≡ later_than l.self.at l.log;
   within : l.self.at ≤ l.to;
-  scans : (start now : Board) (goal : Goal) (before : ℕ)
-      → IsScanOf start l.log now goal before l.fn.self l.fn.lab
-      → IsScanOf start l.log now goal before l.self l.lab;
+  scans : (start now : Board) (target : Target) (before : ℕ) → target.points ≡ l.points
+      → IsScanOf start l.log now target before l.fn.self l.fn.lab
+      → IsScanOf start l.log now target before l.self l.lab;
   changes : OnlyRunChanges l.fn.lab l.lab;
 }
 

@@ -3,7 +3,7 @@ use Rattle.lab_image.specs.Addresses.{has}
 use Rattle.lab_image.specs.Breakpoints.{is_met}
 use Rattle.lab_core.specs.Board.{Board}
 use Rattle.lab_core.specs.Labs.{RepresentsBoard}
-use Rattle.dap_history.proofs.scan.marks_of.Given as goal
+use Rattle.dap_history.proofs.scan.plain_marks.Given as goal
 
 abbrev pub invariant-loop-next : goal.invariant-loop-next
 invariant-loop-next l = record {
