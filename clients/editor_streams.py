@@ -41,6 +41,13 @@ EXPRESSIONS = (
     "switches 255", "switches 1000", "A" * 200,
 )
 
+# What a breakpoint has beside its place.
+OPTIONS = (
+    {}, {}, {}, {"condition": "A > 3"}, {"condition": "1/0"}, {"condition": "A =="}, {"condition": 5}, {"hitCondition": "2"},
+    {"logMessage": "{A} {HL:x}"}, {"logMessage": "{1/0}", "condition": "A AND 1"}, {"logMessage": "{A"},
+    {"logMessage": "x" * 1024}, {"logMessage": "{" * 100_000}, {"logMessage": "\ud83d\ude00{M}"}, {"logMessage": None, "condition": []},
+)
+
 # Values to replace any argument.
 VALUES = (
     None, True, False, 0, 1, 5, 255, 256, 65535, 65536, 4294967295, 4294967296, -1, -65536, -65537, 1.0, 0.5, 1e300, 10**30,
@@ -71,7 +78,7 @@ def likely(folder, chance):
     return {
         "program": path, "stopOnEntry": chance.random() < 0.5, "noDebug": chance.random() < 0.2, "aliases": chance.random() < 0.3,
         "switches": chance.randrange(256), "source": {"path": path}, "frameId": chance.randrange(3), "levels": chance.randrange(80),
-        "breakpoints": [{"line": chance.randrange(16), "name": "START"} for _ in range(chance.randrange(4))],
+        "breakpoints": [{"line": chance.randrange(16), "name": "START"} | chance.choice(OPTIONS) for _ in range(chance.randrange(4))],
         "variablesReference": chance.randrange(7), "start": chance.randrange(70_000), "count": chance.randrange(70_000),
         "name": chance.choice(("A", "SP", "0100", "x")), "granularity": chance.choice(("instruction", "line")),
         "value": chance.choice(("5", "0FFH", "65536", 7, "")), "expression": chance.choice(EXPRESSIONS),

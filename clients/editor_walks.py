@@ -1,11 +1,13 @@
 """Random debugging sessions that go forward and back, compared with a plain model of the board after each request."""
 import base64
 import copy
+import os
 import time
 
 import plain_board
 import plain_far
 import plain_programs
+from editor import printed
 from plain_debugger import PlainDebugger
 
 # The memory that is compared: program, data and stack.
@@ -22,7 +24,7 @@ class Walk:
         self.program = plain_programs.made(chance)
         self.typed, self.switches = chance.choice(("", "ab\n")), chance.randrange(256)
         # What the debugger has told since the last comparison, and what it must have told.
-        self.events, self.printed, self.forgotten, self.plain, self.is_over = [], b"", [], None, False
+        self.events, self.printed, self.told, self.plain, self.is_over = [], b"", [], None, False
 
     def begin(self):
         with open(self.path, "w", encoding="ascii") as file:
@@ -35,7 +37,7 @@ class Walk:
         before = self.plain
         self.plain = PlainDebugger(self.program, [("type", self.typed.encode()), ("switch", self.switches)])
         if before:
-            self.plain.breakpoints, self.plain.conditions = before.breakpoints, before.conditions
+            self.plain.take_breakpoints(before)
         self.stops("entry")
         self.compare()
 
@@ -110,10 +112,19 @@ class Walk:
 
     def compare_told(self):
         outputs = [body for name, body in self.events if name == "output"]
-        stdout, console = ["".join(it["output"] for it in outputs if it["category"] == name) for name in ("stdout", "console")]
-        equal(stdout.encode("latin-1"), self.printed)
-        equal(console, "".join(f"what came after step {count} is forgotten\n" for count in self.forgotten))
-        self.events, self.printed, self.forgotten = [], b"", []
+        equal("".join(it["output"] for it in outputs if it["category"] == "stdout").encode("latin-1"), self.printed)
+        equal([it for it in outputs if it["category"] == "console"], self.told)
+        self.events, self.printed, self.told = [], b"", []
+
+    def tell(self, messages):
+        """Breakpoints must have told these messages."""
+        source = {"name": os.path.basename(self.path), "path": self.path}
+        self.told += [{"category": "console", "column": 1, "line": line, "output": text + "\n", "source": source}
+                      for line, text in messages]
+
+    def forget(self, count):
+        """It must have been told that what came after this step is forgotten."""
+        self.told.append({"category": "console", "output": f"what came after step {count} is forgotten\n"})
 
     # ---- forward
 
@@ -138,12 +149,14 @@ class Walk:
                 self.stops("pause")
                 return
             equal(self.do("evaluate", expression=f"press {n}", context="repl")["result"], "ok")
-            self.forgotten += [before] * forgets
+            if forgets:
+                self.forget(before)
             plain = pressed
 
-    def reached(self, plain, reason, console):
+    def reached(self, plain, reason, console, messages):
         """The run has come to a stop, or waits. Returns whether it waits."""
         self.plain, self.printed = plain, self.printed + console
+        self.tell(messages)
         if reason == "waiting":
             self.wait_for_board()
             return True
@@ -227,12 +240,13 @@ class Walk:
         body = self.do(command, **arguments)
         equal(body.get("result", body.get("value", body.get("bytesWritten"))), told)
         count = self.plain.board.count
-        self.forgotten += [count] * self.plain.input(*what)
+        if self.plain.input(*what):
+            self.forget(count)
 
     def set_register(self, byte):
         name = self.chance.choice("ABCDEHL") if byte else "SP"
         value = byte or plain_programs.STACK - 32
-        text = f"0{value:04X}H" if name == "SP" else f"0{value:02X}H"
+        text = word(value) if name == "SP" else f"0{value:02X}H"
         self.changes(text, ("setVariable", {"variablesReference": 1, "name": name, "value": str(value)}), "set", name, value)
 
     def write(self, kind, byte):
@@ -259,20 +273,17 @@ class Walk:
         everywhere = range(self.program.text.count("\n") + 2)
         inside = [self.program.lines[at] for at in sorted(self.program.firsts) if at < self.program.start]
         chosen = sorted({line for some in (everywhere, inside) for line in self.chance.sample(some, self.chance.randint(0, 3))})
-        asked = [(line, *self.condition()) for line in chosen]
+        options = [(*self.condition(), *self.message()) for _ in chosen]
         landings = [self.plain.landing(line) for line in chosen]
         shown = [(line, False) if landing is None else (landing, True) for line, landing in zip(chosen, landings)]
-        given = [{"line": line} | ({"condition": text} if text else {}) for line, text, _ in asked]
+        given = [{"line": line} | ({"condition": condition} if condition else {}) | ({"logMessage": message} if message else {})
+                 for line, (condition, _, message, _) in zip(chosen, options)]
         answer = self.do("setBreakpoints", source={"path": self.path}, breakpoints=given)["breakpoints"]
         equal([(it["line"], it["verified"]) for it in answer], shown)
-        self.plain.breakpoints, self.plain.conditions = set(), {}
-        for (_, text, holds), landing in zip(asked, landings):
-            if landing is None:
-                continue
-            if text:
-                self.plain.conditions.setdefault(landing, []).append(holds)
-            else:
-                self.plain.breakpoints.add(landing)
+        self.plain.breakpoints, self.plain.conditions, self.plain.messages = set(), {}, {}
+        for landing, (_, holds, _, text) in zip(landings, options):
+            if landing is not None:
+                self.plain.set_breakpoint(landing, holds, text)
 
     def condition(self):
         """A condition's text and what it says of a board, or None twice."""
@@ -285,6 +296,17 @@ class Walk:
             (f"{name} AND 1", lambda board: board.r[place] & 1),
             ("SP < 0", lambda board: False),
             (f"{byte} / (A AND 0)", lambda board: True)))
+
+    def message(self):
+        """A log message and its text on a board, or None twice."""
+        address = plain_programs.DATA + self.chance.randrange(8)
+        name, place = self.chance.choice([("B", 0), ("C", 1), ("D", 2), ("E", 3), ("A", 7)])
+        return self.chance.choice((
+            (None, None), (None, None), (None, None),
+            (f"{name} is {{{name}}}", lambda board: f"{name} is {board.r[place]}"),
+            (f"{{[0{address:X}H]:x}} }}{{{{ {{SP:x}}", lambda board: f"{word(board.memory[address])} }}{{ {word(board.sp)}"),
+            ("{HL / (A AND 1)}{Z}", lambda board: f"{board.hl() if board.r[7] & 1 else 'Divisor'}{board.z}"),
+            ("\u00e9", lambda board: "\u00e9")))
 
     # ---- looks
 
@@ -300,7 +322,9 @@ class FarWalk:
 
     def __init__(self, editor, path, chance):
         self.editor, self.path, self.chance = editor, path, chance
-        self.inputs, self.count, self.told, self.stops_at_carry = [], 0, 0, False
+        self.inputs, self.count, self.told = [], 0, 0
+        # What a breakpoint at the carry does: it stops the run, tells a message, or there is none.
+        self.at_carry = None
 
     def go(self, actions):
         with open(self.path, "w", encoding="ascii") as file:
@@ -318,16 +342,22 @@ class FarWalk:
         equal(base64.b64decode(data), bytes(board.memory[plain_far.DATA:plain_far.DATA + plain_far.SIZE]))
 
     def forward(self):
-        """To the breakpoint if it is set, or else by some milliseconds."""
+        """To the breakpoint if it stops, or else by some milliseconds."""
         self.editor.do("continue", threadId=1)
-        if self.stops_at_carry:
+        if self.at_carry == "stops":
             equal(self.editor.stop(), "breakpoint")
             self.count = plain_far.carry_after(self.count)
         else:
             time.sleep(self.chance.random() * 0.03)
-            self.editor.do("pause", threadId=1)
-            self.count = self.count_now()
+            events = self.editor.ask_amid("pause", threadId=1) + self.editor.events_to("stopped")
+            before, self.count = self.count, self.count_now()
+            equal(printed(events, "console"), "".join(f"{number}\n" for number in self.carries(before)))
         self.told = max(self.told, self.count)
+
+    def carries(self, before):
+        """The numbers of the carries from this count of steps on, which SP counts, if they are told."""
+        first, behind = (plain_far.board_at(self.inputs, count).sp for count in (before, self.count))
+        return range(first, behind) if self.at_carry == "tells" else ()
 
     def count_now(self):
         pc, sp, *bc = [int(self.editor.shown(1)[name].rstrip("H"), 16) for name in ("PC", "SP", "B", "C")]
@@ -348,7 +378,7 @@ class FarWalk:
         equal(self.editor.stop(), "entry" if reason == "breakpoint" and self.count == 0 else reason)
 
     def carry_before(self):
-        return plain_far.carry_before(self.count) if self.stops_at_carry else 0
+        return plain_far.carry_before(self.count) if self.at_carry == "stops" else 0
 
     def change(self):
         byte = self.chance.randrange(256)
@@ -364,8 +394,9 @@ class FarWalk:
         self.told = self.count
 
     def set_breakpoint(self):
-        self.stops_at_carry = not self.stops_at_carry
-        self.editor.set_breakpoints(self.path, [plain_far.CARRY_LINE] * self.stops_at_carry)
+        self.at_carry = self.chance.choice(("stops", "tells", None))
+        point = {"line": plain_far.CARRY_LINE} | ({"logMessage": "{SP}"} if self.at_carry == "tells" else {})
+        self.editor.do("setBreakpoints", source={"path": self.path}, breakpoints=[point] if self.at_carry else [])
 
 
 def equal(found, wanted):
@@ -377,8 +408,12 @@ def prompt(words):
     return "evaluate", {"expression": words, "context": "repl"}
 
 
+def word(number):
+    return f"0{number:04X}H"
+
+
 def registers(board):
-    return [f"0{board.r[plain_board.NAMES.index(name)]:02X}H" for name in "ABCDEHL"] + [f"0{board.sp:04X}H", f"0{board.pc:04X}H"]
+    return [f"0{board.r[plain_board.NAMES.index(name)]:02X}H" for name in "ABCDEHL"] + [word(board.sp), word(board.pc)]
 
 
 def shown(board):

@@ -57,6 +57,39 @@
   (goto-char (point-min))
   (forward-line (1- line)))
 
+(defun end-session ()
+  "Let the program go on from where it is held to the end of the session, and say what the output's buffer has."
+  (let ((session (dap--cur-session)))
+    (call-interactively #'lab80-dap-run)
+    (wait "end" (lambda () (not (dap--session-running session))))
+    (say "ended: %s" (dap--debug-session-state session))
+    (let ((print-escape-newlines t))
+      (with-current-buffer (dap--debug-session-output-buffer session)
+        (say "output: %S" (buffer-substring-no-properties (point-min) (point-max)))))))
+
+(defun answer (command text)
+  "Do COMMAND, and answer what it asks by TEXT."
+  (cl-letf (((symbol-function 'read-string) (lambda (prompt &rest _) (say "%s%S" prompt text) text)))
+    (call-interactively command)))
+
+(defun breakpoints ()
+  (let ((file-breakpoints (gethash buffer-file-name (dap--debug-session-breakpoints (dap--cur-session)))))
+    (mapconcat (lambda (each)
+                 (format "line %s, %s%s" (gethash "line" each) (if (gethash "verified" each) "verified" "not verified")
+                         (let ((message (gethash "message" each))) (if message (concat ", " message) ""))))
+               file-breakpoints "; ")))
+
+(defun say-breakpoints (old)
+  "Wait until the breakpoints aren't OLD, and say what they are."
+  (say "breakpoints: %s" (wait "breakpoints" (lambda () (and (not (equal old (breakpoints))) (breakpoints))))))
+
+(defun change (command text)
+  "Do COMMAND in line 6, answer what it asks by TEXT, and say what the breakpoints are then."
+  (let ((old (breakpoints)))
+    (go-to-line 6)
+    (answer command text)
+    (say-breakpoints old)))
+
 (find-file "count.asm")
 (lab80-dap-mode 1)
 (go-to-line 10)
@@ -90,9 +123,26 @@
 (say-answer "back" #'lab80-dap-step-back)
 (do-key [f10])
 (do-key [f5])
-(let ((session (dap--cur-session)))
-  (call-interactively #'lab80-dap-run)
-  (wait "end" (lambda () (not (dap--session-running session))))
-  (say "ended: %s" (dap--debug-session-state session))
-  (with-current-buffer (dap--debug-session-output-buffer session)
-    (say "output: %S" (buffer-substring-no-properties (point-min) (point-max)))))
+(end-session)
+;; a condition, and a log message at a breakpoint that moves
+(go-to-line 6)
+(dap-breakpoint-toggle)
+(answer #'dap-breakpoint-condition "B == 2")
+(go-to-line 9)
+(dap-breakpoint-toggle)
+(answer #'dap-breakpoint-log-message "B is {B}, at {PC:x}")
+(lab80-dap-run)
+(say-stop "lab80-dap-run" nil)
+(say-breakpoints nil)
+(change #'dap-breakpoint-condition "B ==")
+(change #'dap-breakpoint-condition "B == 1")
+(change #'dap-breakpoint-log-message "then {B")
+;; An empty answer takes away the condition as well.
+(change #'dap-breakpoint-log-message "")
+(say "condition: %s" (plist-get (dap--get-breakpoint-at-point) :condition))
+(change #'dap-breakpoint-hit-condition "2")
+(change #'dap-breakpoint-hit-condition "")
+(answer #'dap-breakpoint-condition "B == 1")
+(answer #'dap-breakpoint-log-message "then {B}")
+(do-key [f5])
+(end-session)

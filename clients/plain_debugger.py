@@ -11,8 +11,9 @@ class PlainDebugger:
     def __init__(self, program, inputs):
         self.program, self.inputs = program, [(0, *what) for what in inputs]
         self.board, self.told, self.breakpoints = self.board_at(0), 0, set()
-        # Of each line with a breakpoint that has conditions those conditions, each by what it says of a board.
-        self.conditions = {}
+        # Of each line with breakpoints that have conditions those conditions, each by what it says of a board; of each line with
+        # log messages these, each by its condition and by its text on a board.
+        self.conditions, self.messages = {}, {}
         # The step that it makes, if it makes one, with the count and the live routines where it went on; how it is held at its end.
         self.pending, self.resumed, self.live, self.held = None, 0, (), None
 
@@ -34,11 +35,31 @@ class PlainDebugger:
         """The first line with code at or below this one, where a breakpoint on it is met; None if there is none."""
         return min((it for at, it in self.program.lines.items() if at in self.program.firsts and it >= line), default=None)
 
+    def take_breakpoints(self, other):
+        """Has those of another run."""
+        self.breakpoints, self.conditions, self.messages = other.breakpoints, other.conditions, other.messages
+
+    def set_breakpoint(self, line, holds, text):
+        """Sets one, with a condition or None, and with a log message or None."""
+        if text:
+            self.messages.setdefault(line, []).append((holds or (lambda board: True), text))
+        elif holds:
+            self.conditions.setdefault(line, []).append(holds)
+        else:
+            self.breakpoints.add(line)
+
     def is_at_breakpoint(self, board):
         return self.begins(board) and self.program.lines[board.pc] in self.breakpoints
 
     def is_at_condition(self, board):
         return self.begins(board) and any(it(board) for it in self.conditions.get(self.program.lines[board.pc], ()))
+
+    def told_before_step(self, board):
+        """What breakpoints tell before the next step: a line and a text for each message."""
+        if not self.begins(board):
+            return []
+        line = self.program.lines[board.pc]
+        return [(line, text(board)) for holds, text in self.messages.get(line, ()) if holds(board)]
 
     # ---- forward
 
@@ -47,8 +68,9 @@ class PlainDebugger:
         self.pending, self.resumed, self.live = pending, self.board.count, tuple(self.board.frames)
 
     def go(self):
-        """Goes on to where there is a reason to stop or to wait. Returns that and what is told of the console; None if it is far."""
-        board, heard = self.board_at(self.board.count), None
+        """Goes on to where there is a reason to stop or to wait. Returns that, what is told of the console, and what breakpoints
+        tell; None if it is far."""
+        board, heard, messages = self.board_at(self.board.count), None, []
         for _ in range(MOST_STEPS):
             if board.count == max(self.told, self.board.count):
                 heard = len(board.console)
@@ -61,7 +83,8 @@ class PlainDebugger:
                 console = b"" if heard is None else bytes(board.console[heard:])
                 self.board, self.told = board, max(self.told, board.count)
                 self.held = reason if reason in ("halted", "exception") else None
-                return reason, console
+                return reason, console, messages
+            messages += self.told_before_step(board)
             board.step()
         return None
 
@@ -109,9 +132,12 @@ class PlainDebugger:
             return self.go_to(self.board.count - 1)
         return self.go_to(self.last_before(lambda it: self.begins(it) and len(it.frames) <= most))
 
+    def stops_going_back(self, board):
+        return self.is_at_breakpoint(board) or self.is_at_condition(board)
+
     def reverse(self):
-        self.go_to(self.last_before(self.is_at_breakpoint))
-        return "breakpoint" if self.is_at_breakpoint(self.board) else "entry"
+        self.go_to(self.last_before(self.stops_going_back))
+        return "breakpoint" if self.stops_going_back(self.board) else "entry"
 
     def go_to(self, count):
         self.board, self.held = self.board_at(max(count, 0)), None

@@ -74,8 +74,8 @@ CAPABILITIES = {
     **dict.fromkeys((
         "supportsBreakpointLocationsRequest", "supportsConditionalBreakpoints", "supportsConfigurationDoneRequest",
         "supportsDisassembleRequest", "supportsEvaluateForHovers", "supportsExceptionInfoRequest",
-        "supportsFunctionBreakpoints", "supportsGotoTargetsRequest",
-        "supportsLoadedSourcesRequest", "supportsReadMemoryRequest", "supportsRestartRequest", "supportsSetVariable",
+        "supportsFunctionBreakpoints", "supportsGotoTargetsRequest", "supportsLoadedSourcesRequest", "supportsLogPoints",
+        "supportsReadMemoryRequest", "supportsRestartRequest", "supportsSetVariable",
         "supportsStepBack", "supportsSteppingGranularity", "supportsTerminateRequest", "supportsWriteMemoryRequest"), True),
     "exceptionBreakpointFilters": [
         {"filter": "undefined", "label": "Undefined opcodes", "default": True},
@@ -97,7 +97,7 @@ CONVERSATION = (
      '"supportsConditionalBreakpoints":true,"supportsConfigurationDoneRequest":true,'
      '"supportsDisassembleRequest":true,"supportsEvaluateForHovers":true,"supportsExceptionInfoRequest":true,'
      '"supportsFunctionBreakpoints":true,"supportsGotoTargetsRequest":true,"supportsLoadedSourcesRequest":true,'
-     '"supportsReadMemoryRequest":true,"supportsRestartRequest":true,"supportsSetVariable":true,'
+     '"supportsLogPoints":true,"supportsReadMemoryRequest":true,"supportsRestartRequest":true,"supportsSetVariable":true,'
      '"supportsStepBack":true,"supportsSteppingGranularity":true,'
      '"supportsTerminateRequest":true,"supportsWriteMemoryRequest":true},"command":"initialize","request_seq":1,"seq":1,'
      '"success":true,"type":"response"}'),

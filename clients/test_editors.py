@@ -48,6 +48,28 @@ dap-next: main, line 4, cursor in line 4
 lab80-dap-run: main, line 10, cursor in line 10
 ended: terminated
 output: "39"
+Enter breakpoint condition: "B == 2"
+Enter log message: "B is {B}, at {PC:x}"
+lab80-dap-run: main, line 6, cursor in line 6
+breakpoints: line 10, verified, moved from line 9; line 6, verified
+Enter breakpoint condition: "B =="
+breakpoints: line 10, verified, moved from line 9; line 6, not verified, condition, column 1: Operands
+Enter breakpoint condition: "B == 1"
+breakpoints: line 10, verified, moved from line 9; line 6, verified
+Enter log message: "then {B"
+breakpoints: line 10, verified, moved from line 9; line 6, not verified, log message, column 6: open brace
+Enter log message: ""
+breakpoints: line 6, verified; line 10, verified, moved from line 9
+condition: nil
+Enter hit condition: "2"
+breakpoints: line 6, not verified, hit counts are not supported; line 10, verified, moved from line 9
+Enter hit condition: ""
+breakpoints: line 6, verified; line 10, verified, moved from line 9
+Enter breakpoint condition: "B == 1"
+Enter log message: "then {B}"
+lab80-dap-run: main, line 10, cursor in line 10
+ended: terminated
+output: "B is 3, at 0010BH\\n3B is 2, at 0010BH\\n2B is 1, at 0010BH\\n1then 1\\n"
 """
 
 # Kate's requests in its session, except those for its display.
