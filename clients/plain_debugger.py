@@ -74,10 +74,11 @@ class PlainDebugger:
         for _ in range(MOST_STEPS):
             if board.count == max(self.told, self.board.count):
                 heard = len(board.console)
-            reason = self.reason(board)
+            # A condition is asked where a step has come to it, before what is done again there.
+            reason = self.reason(board, asks=board.count > self.board.count)
             if board.count > self.board.count:
                 self.do_again(board)
-                reason = reason or self.reason(board)
+                reason = reason or self.reason(board, asks=False)
             reason = reason or self.end(board)
             if reason:
                 console = b"" if heard is None else bytes(board.console[heard:])
@@ -97,7 +98,7 @@ class PlainDebugger:
                 if board.sp > sp:
                     self.pending = None
 
-    def reason(self, board):
+    def reason(self, board, asks):
         moved = board.count > self.resumed
         if board.is_halted and board.interrupts == OFF:
             return "halted"
@@ -105,7 +106,7 @@ class PlainDebugger:
             return "breakpoint"
         if moved and self.pending and self.is_complete(board, *self.pending):
             return "step"
-        if moved and self.is_at_condition(board):
+        if asks and moved and self.is_at_condition(board):
             return "breakpoint"
         return None
 
