@@ -1,6 +1,6 @@
 //! Texts and faults of log messages.
 
-use crate::valued::put_program;
+use crate::valued::{lab_with_program, put_repeated};
 use dap_log::message::LogMessage;
 use lab_core::lab::Lab;
 use std::alloc::{AllocError, Global};
@@ -116,9 +116,7 @@ fn put_length(alloc: Global, lab: &Lab, text: &str, told: &mut String) -> Result
 fn put_wrong_limits(alloc: Global, lab: &Lab, wrong: &mut String) -> Result<(), AllocError> {
     for (text, count, last, wanted) in &LIMITS {
         let mut all = String::new(alloc);
-        for _ in 0..*count {
-            all.push_str(text)?;
-        }
+        put_repeated(text, *count, &mut all)?;
         all.push_str(last)?;
         let mut told = String::new(alloc);
         put_length(alloc, lab, all.as_str(), &mut told)?;
@@ -153,11 +151,8 @@ fn put_wrong_names(alloc: Global, lab: &Lab, wrong: &mut String) -> Result<(), A
 }
 
 fn wrong_logs(alloc: Global) -> Result<String, AllocError> {
-    let mut lab = Lab::new(alloc)?;
     let mut wrong = String::new(alloc);
-    if !put_program(alloc, &mut lab)? {
-        wrong.push_str("the program isn't stopped")?;
-    }
+    let lab = lab_with_program(alloc, &mut wrong)?;
     put_wrong(alloc, &lab, ROWS, &mut wrong)?;
     put_wrong_limits(alloc, &lab, &mut wrong)?;
     put_wrong_names(alloc, &lab, &mut wrong)?;

@@ -23,7 +23,7 @@ TABLE: DB 41H,56H,34H,12H
 ";
 
 // After five steps: A is 53H, HL and SP are 010DH, DE is FFFFH, PC is 010CH; P is set, and no other flag.
-pub(crate) fn put_program(alloc: Global, lab: &mut Lab) -> Result<bool, AllocError> {
+fn put_program(alloc: Global, lab: &mut Lab) -> Result<bool, AllocError> {
     let is_loaded = load_text(alloc, lab, "program", PROGRAM)?;
     let is_started = is_done(lab, &Event::Start(0x100));
     let is_stepped = is_done(lab, &Event::Slice(5));
@@ -227,7 +227,7 @@ const LIMITS: [(&str, usize, &str, &str, &str); 10] = [
     (" ", 1024, "5", "", "1 TooLong"),
 ];
 
-fn put_repeated(text: &str, count: usize, all: &mut String) -> Result<(), AllocError> {
+pub(crate) fn put_repeated(text: &str, count: usize, all: &mut String) -> Result<(), AllocError> {
     for _ in 0..count {
         all.push_str(text)?;
     }
@@ -249,12 +249,18 @@ fn put_wrong_limits(alloc: Global, lab: &Lab, wrong: &mut String) -> Result<(), 
     Ok(())
 }
 
-fn wrong_values(alloc: Global) -> Result<String, AllocError> {
+/// A lab with the program, stopped. Adds a line to what is wrong if it isn't.
+pub(crate) fn lab_with_program(alloc: Global, wrong: &mut String) -> Result<Lab, AllocError> {
     let mut lab = Lab::new(alloc)?;
-    let mut wrong = String::new(alloc);
     if !put_program(alloc, &mut lab)? {
         wrong.push_str("the program isn't stopped")?;
     }
+    Ok(lab)
+}
+
+fn wrong_values(alloc: Global) -> Result<String, AllocError> {
+    let mut wrong = String::new(alloc);
+    let lab = lab_with_program(alloc, &mut wrong)?;
     put_wrong(alloc, &lab, ROWS, &mut wrong)?;
     put_wrong_limits(alloc, &lab, &mut wrong)?;
     Ok(wrong)
