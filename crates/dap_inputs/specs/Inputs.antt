@@ -4,8 +4,8 @@ use Rattle.std.specs.Prelude.{Result, Ok, Err, codes}
 use Rattle.base_text.specs.Bytes.{Bytes, Text}
 use Rattle.base_text.specs.Latin.{latin_bytes}
 use Rattle.i80_exec.specs.declared.registers.Registers.{Registers}
-use Rattle.lab_views.specs.declared.place.Place.{Place}
-use Rattle.lab_views.specs.declared.place.Place.TheVariants as place
+use Rattle.lab_shown.specs.declared.place.Place.{Place}
+use Rattle.lab_shown.specs.declared.place.Place.TheVariants as place
 use Rattle.lab_views.specs.declared.poke_fault.PokeFault.{PokeFault}
 use Rattle.lab_views.specs.Places.{place_named}
 use Rattle.lab_views.specs.Values.{value_spelled}

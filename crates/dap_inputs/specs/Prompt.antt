@@ -3,7 +3,7 @@ use Rattle.std.specs.Prelude.{ℕ, ◌++◌, take, drop, length, Option, Some, N
 use Rattle.std.specs.Prelude.{if◌then◌else◌}
 use Rattle.std.specs.Str.{trim, bytes_eq}
 use Rattle.base_text.specs.Bytes.{Text}
-use Rattle.lab_views.specs.declared.place.Place.TheVariants.{A}
+use Rattle.lab_shown.specs.declared.place.Place.TheVariants.{A}
 use Rattle.lab_views.specs.declared.poke_fault.PokeFault.{PokeFault}
 use Rattle.lab_views.specs.Values.{value_spelled}
 use Rattle.dap_talk.specs.declared.command.DapCommand.{DapCommand}

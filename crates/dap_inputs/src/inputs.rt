@@ -16,7 +16,8 @@ use dap_history::input::Input;
 use dap_program::memory::address_at;
 use dap_talk::command::DapCommand;
 use i80_exec::registers::Registers;
-use lab_views::place::{Place, place_of};
+use lab_shown::place::Place;
+use lab_views::place::place_of;
 use lab_views::value::value_of;
 use std::alloc::{AllocError, Global};
 

@@ -5,7 +5,7 @@ ghost use Rattle.dap_inputs.specs.Prompt.{prompt_command};
 
 use base_text::text::Text;
 use dap_talk::command::DapCommand;
-use lab_views::place::Place;
+use lab_shown::place::Place;
 use lab_views::value::value_of;
 use std::alloc::{AllocError, Global};
 

@@ -9,7 +9,7 @@ use Rattle.asm_syntax.specs.Faults.{fault_name}
 use Rattle.asm_syntax.specs.Outcome.{CellFault, ◌>>=◌}
 use Rattle.asm_build.specs.Meaning.{Meaning}
 use Rattle.asm_syntax.specs.Numerals.{word_text}
-use Rattle.lab_views.specs.declared.place.Place.{Place}
+use Rattle.lab_shown.specs.declared.place.Place.{Place}
 use Rattle.lab_core.specs.Board.{Board}
 use Rattle.lab_core.specs.Events.{cell_meaning}
 use Rattle.dap_inspect.specs.declared.fault.EvaluateFault.{EvaluateFault}

@@ -4,8 +4,8 @@ use Rattle.std.specs.Str.{bytes_eq}
 use Rattle.base_text.specs.Bytes.{Text}
 use Rattle.i80_rows.specs.declared.instruction.Pair.TheVariants as pair
 use Rattle.i80_exec.specs.State.{MachineState, byte_at, get_pair}
-use Rattle.lab_views.specs.declared.place.Place.{Place}
-use Rattle.lab_views.specs.declared.place.Place.TheVariants as place
+use Rattle.lab_shown.specs.declared.place.Place.{Place}
+use Rattle.lab_shown.specs.declared.place.Place.TheVariants as place
 use Rattle.lab_views.specs.Places.{register_named}
 use Rattle.lab_views.specs.Values.{text_at}
 

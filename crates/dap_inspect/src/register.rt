@@ -10,7 +10,8 @@ ghost use Rattle.dap_inspect.specs.Registers as registers;
 use base_text::text::Text;
 use i80_exec::registers::Registers;
 use lab_core::lab::Lab;
-use lab_views::place::{Place, place_of};
+use lab_shown::place::Place;
+use lab_views::place::place_of;
 use lab_views::value::text_of;
 use std::alloc::{AllocError, Global};
 

@@ -4,8 +4,8 @@ use Rattle.std.proofs.Common.{option_map, codes, if◌then◌else◌, refl, sym,
 use Rattle.base_text.specs.Bytes.{Bytes, Text}
 use Rattle.base_text.specs.Latin.{latin_bytes}
 use Rattle.asm_syntax.specs.Outcome.{◌>>=◌}
-use Rattle.lab_views.specs.declared.place.Place.{Place}
-use Rattle.lab_views.specs.declared.place.Place.TheVariants as place
+use Rattle.lab_shown.specs.declared.place.Place.{Place}
+use Rattle.lab_shown.specs.declared.place.Place.TheVariants as place
 use Rattle.lab_views.specs.declared.poke_fault.PokeFault.{PokeFault}
 use Rattle.lab_views.specs.declared.view.View.{View}
 use Rattle.lab_views.specs.declared.view.View.TheVariants as view

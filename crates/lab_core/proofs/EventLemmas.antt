@@ -6,7 +6,7 @@ use Rattle.std.specs.Prelude.{nat_lt}
 use Rattle.std.proofs.lemmas.Bool.Decides.{nat_tests}
 use Rattle.i80_exec.specs.State.{MachineState, with_byte, with_image_bytes}
 use Rattle.i80_devs.specs.Past.{Press, panel_after}
-use Rattle.lab_views.specs.declared.place.Place.{Place}
+use Rattle.lab_shown.specs.declared.place.Place.{Place}
 use Rattle.lab_views.specs.Places.{place_named}
 use Rattle.lab_views.specs.Values.{value_spelled, text_at}
 use Rattle.lab_views.specs.Changes.{machine_with}

@@ -7,8 +7,8 @@ use Rattle.i80_exec.specs.declared.ports.PortOperation.{PortOperation}
 use Rattle.i80_exec.specs.declared.registers.Registers.{Registers}
 use Rattle.i80_exec.specs.State.{MachineState, byte_at}
 use Rattle.lab_image.specs.Addresses.{has, IsEmpty}
-use Rattle.lab_views.specs.declared.place.Place.{Place}
-use Rattle.lab_views.specs.declared.place.Place.TheVariants as place
+use Rattle.lab_shown.specs.declared.place.Place.{Place}
+use Rattle.lab_shown.specs.declared.place.Place.TheVariants as place
 use Rattle.lab_core.specs.declared.answer.Answer.{Answer}
 use Rattle.lab_core.specs.declared.answer.Answer.TheVariants as answer
 use Rattle.lab_core.specs.declared.event.Event.TheVariants.{Slice}

@@ -8,7 +8,7 @@ ghost use Rattle.lab_core.specs.Marks.{with_after, with_end};
 use i80_exec::machine::Machine;
 use i80_exec::registers::Registers;
 use lab_image::address_set::AddressSet;
-use lab_views::place::Place;
+use lab_shown::place::Place;
 use std::alloc::{AllocError, Global};
 use std::marker::Model;
 

@@ -5,9 +5,9 @@ use i80_rows::flags::Flags;
 use lab_core::lab::Lab;
 use lab_core::lab::moments::Moment;
 use lab_core::marks::Marks;
+use lab_shown::place::Place;
 use lab_test_kit::script::{Step, event_of, tell_event};
 use lab_test_kit::told::put_told;
-use lab_views::place::Place;
 use std::alloc::{AllocError, Global};
 
 /// A call as a test writes it, or a look at what was left.

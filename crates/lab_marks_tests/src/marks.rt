@@ -3,10 +3,10 @@ use crate::call::Call::{Address, Apply, Clear, Registers, SliceTo, Start, Watch,
 use crate::call::{Play, wrong_plays};
 use lab_core::laws::first_mark_is_least;
 use lab_core::marks::Marks;
+use lab_shown::place::Place::{A, B, C, D, E, H, L, Memory, Pc, Sp};
 use lab_shown::step::StepKind::Over;
 use lab_test_kit::script::Step;
 use lab_test_kit::script::Step::{Attach, Line, Lines, Pause, Press, Resume, Slice};
-use lab_views::place::Place::{A, B, C, D, E, H, L, Memory, Pc, Sp};
 use std::alloc::AllocError;
 use std::rt::HostRuntime;
 

@@ -1,12 +1,12 @@
 //! Runs that are put back to a moment, and runs that are held.
 use crate::call::Call::{Apply, Hold, Moment, PutBack, Registers, SliceTo, Start, Watch};
 use crate::call::{Play, wrong_plays};
+use lab_shown::place::Place::Memory;
 use lab_shown::step::StepKind::{In, Out, Over};
 use lab_test_kit::ask::Ask::{Frames, Info, Source, Variables};
 use lab_test_kit::script::Step::{
     Attach, Instruction, Line, Lines, Pause, Press, Resume, Show, Slice, Typed,
 };
-use lab_views::place::Place::Memory;
 use std::alloc::AllocError;
 use std::rt::HostRuntime;
 

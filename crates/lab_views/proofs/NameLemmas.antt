@@ -10,8 +10,8 @@ use Rattle.std.specs.Char.{to_ascii_uppercase}
 use Rattle.std.specs.Str.{bytes_eq}
 use Rattle.base_text.specs.Hexadecimal.{digit_value, number_from, word_spelled, upper_digit, upper_word}
 use Rattle.asm_lex.proofs.HexNumerals.{at_below}
-use Rattle.lab_views.specs.declared.place.Place.{Place}
-use Rattle.lab_views.specs.declared.place.Place.TheVariants as place
+use Rattle.lab_shown.specs.declared.place.Place.{Place}
+use Rattle.lab_shown.specs.declared.place.Place.TheVariants as place
 use Rattle.lab_views.specs.Places.{shown_name, registers, register_named, byte_named, or_unknown}
 use Rattle.lab_views.specs.Places.{named_in, place_named}
 use Rattle.lab_shown.specs.declared.scope.Scope.{Scope}

@@ -17,8 +17,8 @@ use Rattle.lab_shown.specs.declared.scope.Scope.{Scope}
 use Rattle.lab_shown.specs.declared.scope.Scope.TheVariants as scope
 use Rattle.lab_shown.specs.Scopes.{scope_with}
 use Rattle.lab_views.specs.Variables.{variable, register_variables, memory_variable, variables_in}
-use Rattle.lab_views.specs.declared.place.Place.{Place}
-use Rattle.lab_views.specs.declared.place.Place.TheVariants as place
+use Rattle.lab_shown.specs.declared.place.Place.{Place}
+use Rattle.lab_shown.specs.declared.place.Place.TheVariants as place
 use Rattle.lab_views.specs.Places.{shown_name, place_named}
 use Rattle.lab_views.specs.Values.{text_at}
 use Rattle.lab_views.specs.Changes.{machine_with}

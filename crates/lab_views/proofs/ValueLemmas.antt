@@ -7,8 +7,8 @@ use Rattle.asm_lex.specs.Numbers.{number_of}
 use Rattle.asm_lex.specs.Spelling.{Begins}
 use Rattle.asm_syntax.specs.Numerals.{byte_text, word_text}
 use Rattle.asm_lex.proofs.HexNumerals.{IsNumeral, byte_numeral, word_numeral}
-use Rattle.lab_views.specs.declared.place.Place.{Place}
-use Rattle.lab_views.specs.declared.place.Place.TheVariants as place
+use Rattle.lab_shown.specs.declared.place.Place.{Place}
+use Rattle.lab_shown.specs.declared.place.Place.TheVariants as place
 use Rattle.lab_views.specs.Values.{largest_at, number_spelled, at_most, value_spelled, text_at}
 
 within : (n value : ℕ) (test : Bool) → nat_le value n ≡ test → value ≤ n → at_most n (Some value) ≡ Ok value

@@ -3,8 +3,8 @@ use Rattle.std.specs.Prelude.{ℕ}
 use Rattle.i80_rows.specs.declared.instruction.Reg.TheVariants as reg
 use Rattle.i80_exec.specs.State.{MachineState, with_byte, with_pc, with_sp}
 use Rattle.i80_exec.specs.State as state
-use Rattle.lab_views.specs.declared.place.Place.{Place}
-use Rattle.lab_views.specs.declared.place.Place.TheVariants as place
+use Rattle.lab_shown.specs.declared.place.Place.{Place}
+use Rattle.lab_shown.specs.declared.place.Place.TheVariants as place
 
 -- the machine with a value at a place
 abbrev pub machine_with : Place → ℕ → MachineState → MachineState

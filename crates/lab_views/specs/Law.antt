@@ -8,8 +8,8 @@ use Rattle.lab_views.specs.declared.fault.ViewFault.{ViewFault}
 use Rattle.lab_views.specs.Paging.{asked_for}
 use Rattle.lab_views.specs.Parts.{Parts}
 use Rattle.lab_views.specs.Variables.{variable, variables_of}
-use Rattle.lab_views.specs.declared.place.Place.{Place}
-use Rattle.lab_views.specs.declared.place.Place.TheVariants as place
+use Rattle.lab_shown.specs.declared.place.Place.{Place}
+use Rattle.lab_shown.specs.declared.place.Place.TheVariants as place
 use Rattle.lab_views.specs.Places.{shown_name}
 use Rattle.lab_views.specs.Values.{text_at}
 use Rattle.lab_views.specs.Changes.{machine_with}

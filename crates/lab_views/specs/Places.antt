@@ -5,8 +5,8 @@ use Rattle.base_text.specs.Hexadecimal.{upper_word, word_spelled}
 use Rattle.lab_shown.specs.declared.scope.Scope.{Scope}
 use Rattle.lab_shown.specs.declared.scope.Scope.TheVariants.{Registers, Memory}
 use Rattle.lab_shown.specs.Scopes.{scope_with}
-use Rattle.lab_views.specs.declared.place.Place.{Place}
-use Rattle.lab_views.specs.declared.place.Place.TheVariants as place
+use Rattle.lab_shown.specs.declared.place.Place.{Place}
+use Rattle.lab_shown.specs.declared.place.Place.TheVariants as place
 use Rattle.lab_views.specs.declared.poke_fault.PokeFault.{PokeFault}
 use Rattle.lab_views.specs.declared.poke_fault.PokeFault.TheVariants.{BadReference, UnknownName}
 

@@ -3,8 +3,8 @@ ghost use Rattle.std.specs.Prelude.{◌≡◌, ◌≤◌};
 ghost use Rattle.lab_views.specs.Values.{largest_at};
 ghost use Rattle.lab_views.specs.Changes.{machine_with};
 
-use crate::place::Place;
 use i80_exec::machine::Machine;
+use lab_shown::place::Place;
 
 /// Puts a value at a place. Nothing else changes: no flag, no interrupt state, no other byte.
 pub fn put(machine: &mut Machine, place: Place, value: u16)

@@ -3,8 +3,8 @@ ghost use Rattle.std.specs.Prelude.{◌≡◌, ◌≤◌, ◌<◌, ℕ, List, Al
 ghost use Rattle.std.specs.Char.{to_ascii_uppercase};
 ghost use Rattle.base_text.specs.Hexadecimal.{upper_word};
 ghost use Rattle.lab_views.specs.Parts.{Parts};
-ghost use Rattle.lab_views.specs.declared.place.Place.{Place};
-ghost use Rattle.lab_views.specs.declared.place.Place.TheVariants.{Memory};
+ghost use Rattle.lab_shown.specs.declared.place.Place.{Place};
+ghost use Rattle.lab_shown.specs.declared.place.Place.TheVariants.{Memory};
 ghost use Rattle.lab_views.specs.Places.{registers, shown_name, place_named};
 ghost use Rattle.lab_views.specs.Values.{largest_at, text_at, value_spelled};
 ghost use Rattle.lab_views.specs.Law.{ShowsChange};

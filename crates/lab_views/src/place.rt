@@ -4,23 +4,8 @@ ghost use Rattle.lab_views.specs.Places.{place_named, register_named, byte_named
 
 use crate::poke_fault::PokeFault;
 use base_text::hexadecimal::read_word;
+use lab_shown::place::Place;
 use lab_shown::scope::Scope;
-
-/// A place that can be changed by hand.
-#[derive(Clone, Copy)]
-pub enum Place {
-    A,
-    B,
-    C,
-    D,
-    E,
-    H,
-    L,
-    Sp,
-    Pc,
-    /// The byte at an address.
-    Memory(u16),
-}
 
 fn register_of(name: &str) -> Option<Place>
     ensures { result ≡ register_named name.now }

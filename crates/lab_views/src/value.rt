@@ -4,11 +4,11 @@ ghost use Rattle.std.specs.Prelude.{◌≡◌, ◌≤◌, IfOk};
 ghost use Rattle.asm_syntax.specs.Numerals.{byte_text, word_text};
 ghost use Rattle.lab_views.specs.Values.{largest_at, number_spelled, value_spelled, text_at};
 
-use crate::place::Place;
 use crate::poke_fault::PokeFault;
 use asm_lex::number::number_of;
 use asm_syntax::numeral::{push_byte, push_word};
 use base_text::text::Text;
+use lab_shown::place::Place;
 use std::alloc::{AllocError, Global};
 
 /// The number that the assembler reads from a text. It must begin with a digit.
