@@ -16,7 +16,7 @@ use Rattle.lab_core.specs.Slices.{after_steps}
 use Rattle.lab_core.specs.Marks.{MarksState, register_at, value_at, is_changed, marked_at, first_after}
 use Rattle.lab_core.specs.Marks.{first_mark, IsFirstMark}
 use Rattle.lab_core.specs.Marks.{watch_of, marks_after, differs, IsKept, is_at, with_values, with_after}
-use Rattle.lab_core.specs.Marks.{with_end, Passes}
+use Rattle.lab_core.specs.Marks.{with_end, Passes, last_site}
 use Rattle.lab_core.proofs.BurstLemmas.{after_more}
 
 -- ---- recorded values
@@ -338,6 +338,31 @@ pub kept_after : (marks : MarksState) (b : Board) (k made : ℕ) → IsKept (aft
 kept_after marks b k zero kept p = let none : k + 0 - 1 ≡ k - 1 = omega arith in rw none kept
 kept_after marks b k (suc made) kept p = kept_on marks b k (suc made) (omega arith) p
 
+-- ---- where PC was before the last step
+
+-- that of one more step
+pub site_more : (b : Board) (made site pc : ℕ) (m : MachineState) → m ≡ (after_steps made b).machine
+    → pc ≡ m.regs.pc → pc ≡ last_site (made + 1) site b
+site_more b made site pc m is at =
+    let one : made + 1 ≡ suc made = omega arith in
+    rw one (at ∙ ap (λ (m : MachineState). m.regs.pc) is)
+
+-- that of further steps after the first k
+pub site_on : (b : Board) (k made site : ℕ)
+    → last_site made (last_site k site b) (after_steps k b) ≡ last_site (k + made) site b
+site_on b k zero site = let none : k + 0 ≡ k = omega arith in rw none refl
+site_on b k (suc made) site =
+    let more : k + suc made ≡ suc (made + k) = omega arith in
+    rw more (ap (λ (board : Board). board.machine.regs.pc) (sym (after_more made k b)))
+
+-- that of a whole slice
+pub site_of : (b : Board) (k site pc : ℕ) (m : MachineState) → m ≡ b.machine → site ≡ m.regs.pc
+    → pc ≡ last_site k site b → pc ≡ (after_steps (k - 1) b).machine.regs.pc
+site_of b zero site pc m is at e =
+    let none : 0 - 1 ≡ 0 = omega arith in
+    rw none (e ∙ at ∙ ap (λ (m : MachineState). m.regs.pc) is)
+site_of b (suc k) site pc m is at e = let less : suc k - 1 ≡ k = omega arith in rw less e
+
 -- ---- a whole slice
 
 pub first-values : (m : MachineState) (marks : MarksState) (n : ℕ) (b : Board)
@@ -348,10 +373,11 @@ first-values m marks n b =
     rw (changed-watch m (after_steps (i - 1) b).machine (after_steps i b).machine marks.watches) refl)
     n 0
 
-pub end-values : (m m' : MachineState) (marks : MarksState) (k : ℕ) (b : Board)
+pub end-values : (m m' : MachineState) (marks : MarksState) (k site : ℕ) (b : Board)
     → m' ≡ (after_steps k b).machine → IsKept (after_steps (k - 1) b).machine (with_values m marks)
-    → with_end k m' (with_values m marks) ≡ marks_after k b marks
-end-values m m' marks k b is kept =
+    → site ≡ (after_steps (k - 1) b).machine.regs.pc
+    → with_end k site m' (with_values m marks) ≡ marks_after k b marks
+end-values m m' marks k site b is kept at =
     let was = (after_steps (k - 1) b).machine in
     let ws = map (watch_of m m) marks.watches in
     rw (
@@ -360,5 +386,6 @@ end-values m m' marks k b is kept =
       after-watch was m' ws kept,
       watch-watch m was m' marks.watches,
       is,
+      at,
     )
     refl

@@ -22,18 +22,20 @@ use Rattle.lab_core.specs.Events.{Applies}
 use Rattle.lab_core.specs.SliceEnds.{traffic_in}
 use Rattle.lab_core.specs.Labs.{LabState, RepresentsDuringSlice, RepresentsBoard, in_slice}
 
--- what a contract sees of marks: whether each address is marked, the watched places, and whether the last
--- slice ended at a mark
+-- what a contract sees of marks: whether each address is marked, the watched places, and of the last slice
+-- whether it ended at a mark, and where PC was before its last step
 pub record MarksState : Type 0 where
   pub addresses : List Bool
   pub watches : List Watch
   pub is_met : Bool
+  pub stepped_from : ℕ
 
 -- there are no marks
 pub record IsClear (marks : MarksState) : Type 0 where
   pub addresses : IsEmpty marks.addresses
   pub watches : marks.watches ≡ []
   pub is_met : marks.is_met ≡ false
+  pub stepped_from : marks.stepped_from ≡ 0
 
 -- ---- where a mark is
 
@@ -99,11 +101,13 @@ SlicesTo marks n old reply new =
 abbrev pub watch_of : MachineState → MachineState → Watch → Watch
 watch_of m m' w = record { place = w.place; before = value_at w.place m; after = value_at w.place m' }
 
--- the marks after k steps: the values before and after the last one, and whether it reached a mark
+-- the marks after k steps: the values before and after the last one, whether it reached a mark, and where PC
+-- was before it; after no step, where PC is
 abbrev pub marks_after : ℕ → Board → MarksState → MarksState
 marks_after k b marks = record marks {
   watches = map (watch_of (after_steps (k - 1) b).machine (after_steps k b).machine) marks.watches;
   is_met = nat_lt 0 k && marked_at marks b k;
+  stepped_from = (after_steps (k - 1) b).machine.regs.pc;
 }
 
 -- From every board, the slice leaves these marks, and its answer has at most n port operations.
@@ -133,10 +137,18 @@ with_values m marks = record marks { watches = map (watch_of m m) marks.watches;
 abbrev pub with_after : MachineState → Watch → Watch
 with_after m w = record w { after = value_at w.place m }
 
--- the marks at its end, after k steps
-abbrev pub with_end : ℕ → MachineState → MarksState → MarksState
-with_end k m marks =
-    record marks { watches = map (with_after m) marks.watches; is_met = nat_lt 0 k && is_at m marks }
+-- the marks at its end, after k steps, the last of them with PC at `site` before
+abbrev pub with_end : ℕ → ℕ → MachineState → MarksState → MarksState
+with_end k site m marks = record marks {
+  watches = map (with_after m) marks.watches;
+  is_met = nat_lt 0 k && is_at m marks;
+  stepped_from = site;
+}
+
+-- where PC was before the last of k steps from this board, or `site` if there was none
+abbrev pub last_site : ℕ → ℕ → Board → ℕ
+last_site zero site b = site
+last_site (suc k) site b = (after_steps k b).machine.regs.pc
 
 -- only the last of these steps may have reached a mark, and the recorded values are those before it
 pub record Passes (marks : MarksState) (made : ℕ) (b : Board) : Type 0 where

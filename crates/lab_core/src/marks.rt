@@ -26,6 +26,7 @@ pub struct Marks {
     addresses: AddressSet,
     watches: Vec<Watch>,
     is_met: bool,
+    stepped_from: u16,
 }
 
 impl Model for Marks {
@@ -33,7 +34,12 @@ impl Model for Marks {
 
     ghost Value = { MarksState };
 
-    ghost view = { λ m. record { addresses = m.addresses; watches = m.watches.items; is_met = m.is_met } };
+    ghost view = { λ m. record {
+      addresses = m.addresses;
+      watches = m.watches.items;
+      is_met = m.is_met;
+      stepped_from = m.stepped_from;
+    } };
 }
 
 impl Marks {
@@ -46,16 +52,8 @@ impl Marks {
             addresses,
             watches: Vec::new(alloc),
             is_met: false,
+            stepped_from: 0,
         })
-    }
-
-    /// Removes all marks.
-    pub fn clear(&mut self)
-        ensures { IsClear self.new }
-    {
-        self.addresses.clear();
-        self.watches.clear();
-        self.is_met = false;
     }
 
     /// Marks an address.
@@ -81,13 +79,6 @@ impl Marks {
         Ok(())
     }
 
-    /// Whether an address is marked.
-    pub fn has_address(&self, address: u16) -> bool
-        ensures { result ≡ has self.now.addresses address }
-    {
-        self.addresses.contains(address)
-    }
-
     /// The watched places, in the order in which they were added.
     pub fn watches(&self) -> &[Watch]
         ensures { result.now ≡ self.now.watches }
@@ -100,6 +91,13 @@ impl Marks {
         ensures { result ≡ self.now.is_met }
     {
         self.is_met
+    }
+
+    /// Where PC was before the last step of the last slice, or at its beginning if it made no step.
+    pub fn stepped_from(&self) -> u16
+        ensures { result ≡ self.now.stepped_from }
+    {
+        self.stepped_from
     }
 
     /// Records the values at the beginning of a slice.
@@ -118,11 +116,13 @@ impl Marks {
         self.addresses.contains(machine.pc()) || is_any_changed(&self.watches, machine)
     }
 
-    /// Records the values after a slice of `executed` steps, and whether its last one reached a mark.
-    pub(crate) fn finish(&mut self, machine: &Machine, executed: u16)
-        ensures { self.new ≡ with_end executed machine.now self.old }
+    /// Records the values after a slice of `executed` steps, and of its last one whether it reached a mark,
+    /// and where PC was before it.
+    pub(crate) fn finish(&mut self, machine: &Machine, executed: u16, site: u16)
+        ensures { self.new ≡ with_end executed site machine.now self.old }
     {
         self.is_met = executed > 0 && self.is_at(machine);
+        self.stepped_from = site;
         keep_values_after(&mut self.watches, machine);
     }
 }

@@ -21,8 +21,6 @@ pub enum Call {
     Address(u16),
     /// Watches a place.
     Watch(Place),
-    /// Takes all marks away.
-    Clear,
     /// A slice to the first mark, of at most so many steps; and what it leaves of the marks.
     SliceTo(u16),
     Write(u16, &'static [u8]),
@@ -55,9 +53,11 @@ fn new_bench(alloc: Global) -> Result<Bench, AllocError> {
     })
 }
 
-// Whether the last slice ended at a mark, and what each watched place held before and after its last step.
+// Whether the last slice ended at a mark, where PC was before its last step, and what each watched place held
+// before and after it.
 fn put_marks(told: &mut String, marks: &Marks) -> Result<(), AllocError> {
     told.push_str(if marks.is_met() { "met" } else { "not met" })?;
+    write!(told, " from {:04X}", marks.stepped_from())?;
     for watch in marks.watches() {
         write!(told, " {:X}>{:X}", watch.before, watch.after)?;
     }
@@ -143,7 +143,6 @@ fn make(alloc: Global, bench: &mut Bench, call: Call, told: &mut String) -> Resu
         Call::Start(text) => start(alloc, bench, text, told)?,
         Call::Address(address) => bench.marks.add_address(address),
         Call::Watch(place) => bench.marks.watch(place)?,
-        Call::Clear => bench.marks.clear(),
         Call::SliceTo(n) => slice_to(bench, n, told)?,
         Call::Write(address, bytes) => bench.lab.write(address, bytes),
         Call::SetRegisters(pc, sp, interrupts) => {

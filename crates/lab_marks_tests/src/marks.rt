@@ -1,8 +1,7 @@
 //! Slices that end at a mark: how many steps they make, and what they leave of the marks.
-use crate::call::Call::{Address, Apply, Clear, Registers, SliceTo, Start, Watch, Write};
+use crate::call::Call::{Address, Apply, Registers, SliceTo, Start, Watch, Write};
 use crate::call::{Play, wrong_plays};
 use lab_core::laws::first_mark_is_least;
-use lab_core::marks::Marks;
 use lab_shown::place::Place::{A, B, C, D, E, H, L, Memory, Pc, Sp};
 use lab_shown::step::StepKind::Over;
 use lab_test_kit::script::Step;
@@ -11,7 +10,7 @@ use std::alloc::AllocError;
 use std::rt::HostRuntime;
 
 // Addresses to which PC comes.
-const ADDRESSES: [Play; 8] = [
+const ADDRESSES: [Play; 7] = [
     (
         "PC comes from FFFFH to a mark at 0000H",
         &[
@@ -22,7 +21,7 @@ const ADDRESSES: [Play; 8] = [
             SliceTo(10),
             Registers,
         ],
-        "Started\n1 More\nmet\n0000 0000 0\n10 More\nnot met\n000A 0000 0\n",
+        "Started\n1 More\nmet from FFFF\n0000 0000 0\n10 More\nnot met from 0009\n000A 0000 0\n",
     ),
     (
         "a mark where a slice begins doesn't count, and one where it ends does",
@@ -34,12 +33,21 @@ const ADDRESSES: [Play; 8] = [
             SliceTo(1),
             SliceTo(1),
         ],
-        "2 More\nmet\n2 More\nmet\n1 More\nnot met\n1 More\nmet\n",
+        "\
+2 More
+met from 0001
+2 More
+met from 0001
+1 More
+not met from 0000
+1 More
+met from 0001
+",
     ),
     (
         "without a mark all steps are made, and of none no step",
         &[Start("X: JMP X"), SliceTo(7), SliceTo(1), SliceTo(0)],
-        "7 More\nnot met\n1 More\nnot met\n0 More\nnot met\n",
+        "7 More\nnot met from 0000\n1 More\nnot met from 0000\n0 More\nnot met from 0000\n",
     ),
     // 1 step and 1000 rounds of 4 lead to HLT.
     (
@@ -50,21 +58,7 @@ const ADDRESSES: [Play; 8] = [
             SliceTo(4096),
             Registers,
         ],
-        "4001 More\nmet\n0009 0000 0\n",
-    ),
-    (
-        "the marks that were taken away don't count",
-        &[
-            Start("X: NOP\nJMP X"),
-            Address(1),
-            Watch(Pc),
-            SliceTo(4),
-            Clear,
-            SliceTo(4),
-            Address(1),
-            SliceTo(4),
-        ],
-        "1 More\nmet 0>1\n4 More\nnot met\n2 More\nmet\n",
+        "4001 More\nmet from 0006\n0009 0000 0\n",
     ),
     (
         "a slice to a mark tells its traffic, once",
@@ -74,7 +68,7 @@ const ADDRESSES: [Play; 8] = [
             SliceTo(10),
             SliceTo(10),
         ],
-        "2 More Out { port: 1, byte: 65 }\nmet\n1 More\nmet\n",
+        "2 More Out { port: 1, byte: 65 }\nmet from 0002\n1 More\nmet from 0004\n",
     ),
     // The instruction after EI is done before the request is accepted.
     (
@@ -90,7 +84,16 @@ const ADDRESSES: [Play; 8] = [
             SliceTo(10),
             Registers,
         ],
-        "1 More\nmet\n1 More\nmet\nAccepted\n3 More\nmet\n0038 FFFE 1\n",
+        "\
+1 More
+met from 0000
+1 More
+met from 0007
+Accepted
+3 More
+met from 0004
+0038 FFFE 1
+",
     ),
     // CALL leads to the mark; NOP and RET lead behind the call.
     (
@@ -111,10 +114,10 @@ Accepted
 Accepted
 Accepted
 1 More
-met
+met from 0000
 0004 FFFE 1
 2 Stop(Step)
-not met
+not met from 0005
 0003 0000 0
 ",
     ),
@@ -132,7 +135,14 @@ const PLACES: [Play; 6] = [
             SliceTo(10),
             SliceTo(10),
         ],
-        "2 More\nmet 0>5\n3 More\nmet 5>0\n1 End(Halted)\nnot met 0>0\n",
+        "\
+2 More
+met from 0002 0>5
+3 More
+met from 0009 5>0
+1 End(Halted)
+not met from 000C 0>0
+",
     ),
     // The high byte is pushed below SP, and the low one below that.
     (
@@ -145,7 +155,7 @@ const PLACES: [Play; 6] = [
             SliceTo(10),
             Registers,
         ],
-        "3 More\nmet 0>34 0>12 0>0\n0007 1FFE 0\n",
+        "3 More\nmet from 0006 0>34 0>12 0>0\n0007 1FFE 0\n",
     ),
     // The acceptance pushes 0001H, the address of JMP, on the stack that begins at 0000H.
     (
@@ -158,7 +168,7 @@ const PLACES: [Play; 6] = [
             SliceTo(10),
             Registers,
         ],
-        "2 More\nAccepted\n1 More\nmet 0>1\n0038 FFFE 1\n",
+        "2 More\nAccepted\n1 More\nmet from 0001 0>1\n0038 FFFE 1\n",
     ),
     (
         "SP, of which one byte or both are changed",
@@ -173,15 +183,15 @@ const PLACES: [Play; 6] = [
         ],
         "\
 1 More
-met 0>2000
+met from 0000 0>2000
 1 More
-met 2000>2001
+met from 0003 2000>2001
 2 More
-met 2001>1FFF
+met from 0005 2001>1FFF
 1 More
-met 1FFF>2001
+met from 0006 1FFF>2001
 1 End(Halted)
-not met 2001>2001
+not met from 0007 2001>2001
 ",
     ),
     (
@@ -206,21 +216,21 @@ not met 2001>2001
         ],
         "\
 1 More
-met 0>1 0>0 0>0 0>0 0>0 0>0 0>0
+met from 0000 0>1 0>0 0>0 0>0 0>0 0>0 0>0
 1 More
-met 1>1 0>2 0>0 0>0 0>0 0>0 0>0
+met from 0002 1>1 0>2 0>0 0>0 0>0 0>0 0>0
 1 More
-met 1>1 2>2 0>3 0>0 0>0 0>0 0>0
+met from 0004 1>1 2>2 0>3 0>0 0>0 0>0 0>0
 1 More
-met 1>1 2>2 3>3 0>4 0>0 0>0 0>0
+met from 0006 1>1 2>2 3>3 0>4 0>0 0>0 0>0
 1 More
-met 1>1 2>2 3>3 4>4 0>5 0>0 0>0
+met from 0008 1>1 2>2 3>3 4>4 0>5 0>0 0>0
 1 More
-met 1>1 2>2 3>3 4>4 5>5 0>6 0>0
+met from 000A 1>1 2>2 3>3 4>4 5>5 0>6 0>0
 1 More
-met 1>1 2>2 3>3 4>4 5>5 6>6 0>7
+met from 000C 1>1 2>2 3>3 4>4 5>5 6>6 0>7
 1 End(Halted)
-not met 1>1 2>2 3>3 4>4 5>5 6>6 7>7
+not met from 000E 1>1 2>2 3>3 4>4 5>5 6>6 7>7
 ",
     ),
     // A jump to itself leaves PC; the byte that is written over it is NOP.
@@ -233,7 +243,7 @@ not met 1>1 2>2 3>3 4>4 5>5 6>6 7>7
             Write(0, &[0]),
             SliceTo(3),
         ],
-        "3 More\nnot met 0>0\n1 More\nmet 0>1\n",
+        "3 More\nnot met from 0000 0>0\n1 More\nmet from 0000 0>1\n",
     ),
 ];
 
@@ -255,11 +265,11 @@ const REASONS: [Play; 6] = [
 Accepted
 line 2 true
 1 Stop(Breakpoint)
-not met
+not met from 0000
 line 3 true
 Accepted
 1 Stop(Breakpoint)
-met
+met from 0001
 ",
     ),
     (
@@ -272,29 +282,29 @@ met
             Watch(Memory(0)),
             SliceTo(10),
         ],
-        "Accepted\nline 1 true\n0 Stop(Breakpoint)\nnot met C3>C3\n",
+        "Accepted\nline 1 true\n0 Stop(Breakpoint)\nnot met from 0000 C3>C3\n",
     ),
     (
         "a HLT that ends the run at a mark",
         &[Start("NOP\nHLT"), Address(2), SliceTo(10), SliceTo(10)],
-        "2 End(Halted)\nmet\nrefused: no program runs\nmet\n",
+        "2 End(Halted)\nmet from 0001\nrefused: no program runs\nmet from 0001\n",
     ),
     (
         "a HLT that waits is seen by the slice behind the mark",
         &[Start("EI\nHLT"), Address(2), SliceTo(10), SliceTo(10)],
-        "2 More\nmet\n0 Waiting\nnot met\n",
+        "2 More\nmet from 0001\n0 Waiting\nnot met from 0002\n",
     ),
     (
         "an undefined opcode is seen by the slice behind the mark",
         &[Start("NOP\nDB 8"), Address(1), SliceTo(10), SliceTo(10)],
-        "1 More\nmet\n0 End(Undefined { opcode: 8, pc: 1 })\nnot met\n",
+        "1 More\nmet from 0000\n0 End(Undefined { opcode: 8, pc: 1 })\nnot met from 0001\n",
     ),
     (
         "a refused slice leaves the marks",
         &[
             Watch(A),
             SliceTo(5),
-            Start("MVI A,5\nX: JMP X"),
+            Start("NOP\nMVI A,5\nX: JMP X"),
             SliceTo(5),
             Apply(Attach),
             Apply(Pause),
@@ -302,40 +312,91 @@ met
         ],
         "\
 refused: no program runs
-not met 0>0
-1 More
-met 0>5
+not met from 0000 0>0
+2 More
+met from 0001 0>5
 Accepted
 Accepted
 refused: no program runs
-met 0>5
+met from 0001 0>5
 ",
+    ),
+];
+
+// Where PC was before the last step.
+const SITES: [Play; 5] = [
+    // CALL at 0003H pushes 0006H.
+    (
+        "a byte that CALL writes, and a slice of no step",
+        &[
+            Start("LXI SP,2000H\nCALL F\nHLT\nF: RET"),
+            Watch(Memory(0x1ffe)),
+            SliceTo(10),
+            Registers,
+            SliceTo(0),
+            SliceTo(10),
+        ],
+        "\
+2 More
+met from 0003 0>6
+0007 1FFE 1
+0 More
+not met from 0007 6>6
+2 End(Halted)
+not met from 0006 6>6
+",
+    ),
+    // An even number of steps ends with JMP, and an odd one then with INR.
+    (
+        "many steps of a loop",
+        &[Start("X: INR A\nJMP X"), SliceTo(1000), SliceTo(7)],
+        "1000 More\nnot met from 0001\n7 More\nnot met from 0000\n",
+    ),
+    (
+        "EI, HLT, a wait behind it, and an accepted request",
+        &[
+            Start("NOP\nNOP\nEI\nHLT"),
+            Address(3),
+            SliceTo(10),
+            SliceTo(10),
+            SliceTo(10),
+            Apply(Press(7)),
+            SliceTo(1),
+            Registers,
+        ],
+        "\
+3 More
+met from 0002
+1 Waiting
+not met from 0003
+0 Waiting
+not met from 0004
+Accepted
+1 More
+not met from 0004
+0038 FFFE 1
+",
+    ),
+    (
+        "an undefined opcode behind other steps",
+        &[Start("NOP\nNOP\nNOP\nDB 8"), SliceTo(10)],
+        "3 End(Undefined { opcode: 8, pc: 3 })\nnot met from 0002\n",
+    ),
+    (
+        "a breakpoint behind other steps",
+        &[
+            Start("NOP\nNOP\nNOP\nHLT"),
+            Apply(Attach),
+            Apply(Lines("p", &[3])),
+            SliceTo(10),
+        ],
+        "Accepted\nline 3 true\n2 Stop(Breakpoint)\nnot met from 0001\n",
     ),
 ];
 
 #[test]
 fn law_stands() {
     first_mark_is_least();
-}
-
-// Which of these addresses are marks.
-fn have(marks: &Marks) -> [bool; 4] {
-    [0, 1, 0xfffe, 0xffff].map(|address| marks.has_address(address))
-}
-
-#[test]
-fn addresses_are_marks_until_they_are_taken_away(rt: HostRuntime) -> Result<(), AllocError> {
-    let mut marks = Marks::new(rt.alloc())?;
-    for address in [0, 0xffff, 0] {
-        marks.add_address(address);
-    }
-    let made = have(&marks);
-    marks.clear();
-    let left = have(&marks);
-    drop(marks);
-    assert!(rt; made == [true, false, false, true]);
-    assert!(rt; left == [false, false, false, false]);
-    Ok(())
 }
 
 #[test]
@@ -348,6 +409,13 @@ fn slices_end_where_pc_comes_to_a_mark(rt: HostRuntime) -> Result<(), AllocError
 #[test]
 fn slices_end_where_a_watched_place_is_changed(rt: HostRuntime) -> Result<(), AllocError> {
     let wrong = wrong_plays(rt.alloc(), &PLACES)?;
+    assert!(rt; wrong.is_empty(), "{wrong}");
+    Ok(())
+}
+
+#[test]
+fn marks_tell_where_the_last_step_began(rt: HostRuntime) -> Result<(), AllocError> {
+    let wrong = wrong_plays(rt.alloc(), &SITES)?;
     assert!(rt; wrong.is_empty(), "{wrong}");
     Ok(())
 }

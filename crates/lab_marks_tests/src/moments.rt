@@ -220,9 +220,9 @@ Accepted
         "\
 Accepted
 4 More In { port: 1, byte: 65 }
-met 0>41
+met from 0009 0>41
 4 More In { port: 1, byte: 65 }
-met 0>41
+met from 0009 0>41
 ",
     ),
 ];

@@ -1,7 +1,7 @@
 use Rattle.std.proofs.Common.{◌≡◌, ◌+◌, ◌-◌, ◌∙◌, sym, refl, inl, inr, arith}
 use Rattle.lab_core.proofs.BurstLemmas.{makes_more, makes_end, kept_on}
 use Rattle.lab_core.proofs.QuietLemmas.{looks_kept}
-use Rattle.lab_core.proofs.MarkLemmas.{passes_more, passes_less}
+use Rattle.lab_core.proofs.MarkLemmas.{passes_more, passes_less, site_more}
 use Rattle.lab_core.proofs.lab.Context.burst_to.Goals as goal
 
 pub loop-left-preserved : goal.loop-left-preserved
@@ -24,6 +24,10 @@ loop-left-preserved c =
           c.in-Within.ensures.undefined (c.in-Within.ensures.made refl) in
           rw one (passes_more c.args.marks.now b (made + 1) _ m.represents.machine
           (sym c.is_at.ensures ∙ c.if-is_at.false) (inv.passes lab b traffic s)));
+      site = λ lab b traffic s.
+          rw one (site_more b made c.args.site.now c.pc-pc.result _
+          (inv.makes lab b traffic s).represents.machine
+          c.pc-pc.ensures);
       free = c.in_default.ensures;
       ready = c.in-Within.ensures.on c.in-Within.now refl;
       room = omega arith;
@@ -163,3 +167,35 @@ returns-in-Some-clause-far c = inl (inr (inr (inr (inr (inr (_, c.in-Some.ensure
 
 pub returns-clause-far : goal.returns-clause-far
 returns-clause-far c = inl (inl refl)
+
+pub returns-in-Last-clause-site : goal.returns-in-Last-clause-site
+returns-in-Last-clause-site c = λ lab b traffic s.
+    site_more b (c.args.most - c.loop-left.left) c.args.site.now c.pc-pc.result _
+    (c.loop-left.invariant.makes lab b traffic s).represents.machine c.pc-pc.ensures
+
+pub returns-then-is_at-clause-site : goal.returns-then-is_at-clause-site
+returns-then-is_at-clause-site c = λ lab b traffic s.
+    let inv = c.loop-left.invariant in
+    let below = inv.within in
+    let some = c.loop-left-test.true in
+    let made = c.args.most - c.loop-left.left in
+    let one : c.args.most - (c.loop-left.left - 1) ≡ made + 1 = omega arith in
+    rw one (site_more b made c.args.site.now c.pc-pc.result _ (inv.makes lab b traffic s).represents.machine
+    c.pc-pc.ensures)
+
+pub returns-in-Some-clause-site : goal.returns-in-Some-clause-site
+returns-in-Some-clause-site c = λ lab b traffic s.
+    let inv = c.loop-left.invariant in
+    let below = inv.within in
+    let some = c.loop-left-test.true in
+    let made = c.args.most - c.loop-left.left in
+    let one : c.args.most - (c.loop-left.left - 1) ≡ made + 1 = omega arith in
+    rw one (site_more b made c.args.site.now c.pc-pc.result _ (inv.makes lab b traffic s).represents.machine
+    c.pc-pc.ensures)
+
+pub returns-clause-site : goal.returns-clause-site
+returns-clause-site c = λ lab b traffic s.
+    let inv = c.loop-left.invariant in
+    let none = c.loop-left-test.false in
+    let all : c.args.most - c.loop-left.left ≡ c.args.most = omega arith in
+    rw all at (inv.site lab b traffic s)

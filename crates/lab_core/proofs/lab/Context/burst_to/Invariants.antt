@@ -4,7 +4,7 @@ use Rattle.lab_core.specs.Board.{Board}
 use Rattle.lab_core.specs.Slices.{reason_before_fetch}
 use Rattle.lab_core.specs.Labs.{LabState, RepresentsDuringSlice, Makes, ComputesIn, IsInBurst, LooksUp}
 use Rattle.lab_core.specs.Labs.{KeepsAsked, in_slice}
-use Rattle.lab_core.specs.Marks.{Passes}
+use Rattle.lab_core.specs.Marks.{Passes, last_site}
 use Rattle.lab_core.proofs.lab.Context.burst_to.Given as goal
 
 abbrev pub invariant-loop-left : goal.invariant-loop-left
@@ -17,6 +17,7 @@ invariant-loop-left l = record {
   passes : (lab : LabState) (b : Board) (traffic : List PortOperation)
       → RepresentsDuringSlice (in_slice lab l.fn.machine l.fn.self) b traffic
       → Passes l.marks (l.most - l.left + 1) b;
+  site : ComputesIn (last_site (l.most - l.left) l.fn.site) l.site l.fn.machine l.fn.self;
   free : ComputesIn reason_before_fetch None l.machine l.self;
   ready : IsInBurst l.frame_floor l.machine l.self;
   room : l.left ≤ l.self.devices.spare;

@@ -34,3 +34,9 @@ returns-clause-far c =
     let F : MachineState → Type 0 = λ machine.
     GoesFar c.args.most made.result machine made.new.self ⊎ (is_at machine c.args.marks.now ≡ true) in
     subst F (sym c.replace.ensures.after) made.ensures.far
+
+pub returns-clause-site : goal.returns-clause-site
+returns-clause-site c = λ lab b traffic s.
+    let M : MachineState → Type 0 =
+    λ machine. RepresentsDuringSlice (in_slice lab machine c.args.self.now) b traffic in
+    c.burst_to-made.ensures.site lab b traffic (subst M (sym c.replace-local.ensures.value) s)

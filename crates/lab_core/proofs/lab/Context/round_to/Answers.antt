@@ -26,16 +26,16 @@ returns-in-Some-clause-unmarked c = λ some lab b traffic s.
     passes_few c.args.marks.now 1 b _ (omega arith) s.machine c.requires.kept
 
 pub returns-then-not-is_ready-clause-made : goal.returns-then-not-is_ready-clause-made
-returns-then-not-is_ready-clause-made c = makes_within c.args.most c.requires.some c.single.ensures
+returns-then-not-is_ready-clause-made c = makes_within c.args.most c.requires.some c.single_to.ensures.made
 
 pub returns-then-not-is_ready-clause-passes : goal.returns-then-not-is_ready-clause-passes
 returns-then-not-is_ready-clause-passes c = λ lab b traffic s.
-    passes_few c.args.marks.now _ b _ c.single.ensures.few s.machine c.requires.kept
+    passes_few c.args.marks.now _ b _ c.single_to.ensures.made.few s.machine c.requires.kept
 
 pub returns-then-not-is_ready-clause-unmarked : goal.returns-then-not-is_ready-clause-unmarked
 returns-then-not-is_ready-clause-unmarked c = λ some lab b traffic s.
-    let less = c.single.ensures.some some in
-    let one : c.single.result.0 + 1 ≤ 1 = omega arith in
+    let less = c.single_to.ensures.made.some some in
+    let one : c.single_to.result.0 + 1 ≤ 1 = omega arith in
     passes_few c.args.marks.now _ b _ one s.machine c.requires.kept
 
 pub returns-in-Some-clause-far : goal.returns-in-Some-clause-far

@@ -2,10 +2,10 @@ use Rattle.std.proofs.Common.{◌≡◌, ◌∙◌, ◌≤◌, ◌<◌, ◌+◌,
 use Rattle.std.specs.Option.{unwrap_or, IsSome}
 use Rattle.lab_core.specs.declared.answer.SliceOutcome.TheVariants.{More}
 use Rattle.lab_core.specs.Slices.{IsSlice, after_steps, traffic_of}
-use Rattle.lab_core.specs.Marks.{marked_at, first_mark}
+use Rattle.lab_core.specs.Marks.{marked_at, first_mark, last_site}
 use Rattle.lab_core.proofs.BurstLemmas.{makes_on, watches_kept}
 use Rattle.lab_core.proofs.MarkLemmas.{first-later, first-none, passed_on, passed_all, found_on, at-marked}
-use Rattle.lab_core.proofs.MarkLemmas.{kept_on}
+use Rattle.lab_core.proofs.MarkLemmas.{kept_on, site_on}
 use Rattle.lab_core.proofs.MarkLemmas.{kept_after, not_at}
 use Rattle.lab_core.proofs.lab.Context.steps_to.Goals as goal
 
@@ -43,6 +43,10 @@ loop-k-preserved c =
       was_kept = λ lab b s.
           kept_on marks b k made.result.0 progress
           (made.ensures.passes lab (after_steps k b) (traffic_of k b) (inv.represents lab b s));
+      site = λ lab b s.
+          made.ensures.site lab (after_steps k b) (traffic_of k b) (inv.represents lab b s)
+          ∙ ap (λ site. last_site made.result.0 site (after_steps k b)) (inv.site lab b s)
+          ∙ site_on b k made.result.0 c.args.site.now;
       kept = not_at _ marks (sym c.is_at.ensures ∙ c.if-is_at.false);
       room = omega arith;
       scratch = made.ensures.scratch;
@@ -182,3 +186,29 @@ returns-clause-kept c = λ lab b s.
     let within = inv.within in
     let all : c.loop-k.k ≡ n = omega arith in
     rw all at (inv.was_kept lab b s)
+
+pub returns-in-Some-clause-site : goal.returns-in-Some-clause-site
+returns-in-Some-clause-site c = λ lab b s.
+    let inv = c.loop-k.invariant in
+    let k = c.loop-k.k in
+    let made = c.round_to-made in
+    made.ensures.site lab (after_steps k b) (traffic_of k b) (inv.represents lab b s)
+    ∙ ap (λ site. last_site made.result.0 site (after_steps k b)) (inv.site lab b s)
+    ∙ site_on b k made.result.0 c.args.site.now
+
+pub returns-then-is_at-clause-site : goal.returns-then-is_at-clause-site
+returns-then-is_at-clause-site c = λ lab b s.
+    let inv = c.loop-k.invariant in
+    let k = c.loop-k.k in
+    let made = c.round_to-made in
+    made.ensures.site lab (after_steps k b) (traffic_of k b) (inv.represents lab b s)
+    ∙ ap (λ site. last_site made.result.0 site (after_steps k b)) (inv.site lab b s)
+    ∙ site_on b k made.result.0 c.args.site.now
+
+pub returns-clause-site : goal.returns-clause-site
+returns-clause-site c = λ lab b s.
+    let inv = c.loop-k.invariant in
+    let n = c.args.n in
+    let within = inv.within in
+    let all : c.loop-k.k ≡ n = omega arith in
+    rw all at (inv.site lab b s)

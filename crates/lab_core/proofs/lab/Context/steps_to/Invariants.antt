@@ -3,7 +3,7 @@ use Rattle.std.specs.Option.{IsSome}
 use Rattle.lab_core.specs.Board.{Board}
 use Rattle.lab_core.specs.Slices.{after_steps, traffic_of, reason}
 use Rattle.lab_core.specs.Labs.{LabState, RepresentsBoard, RepresentsDuringSlice, Watches, in_slice}
-use Rattle.lab_core.specs.Marks.{marked_at, first_after, first_mark, IsKept}
+use Rattle.lab_core.specs.Marks.{marked_at, first_after, first_mark, IsKept, last_site}
 use Rattle.lab_core.proofs.lab.Context.steps_to.Given as goal
 
 abbrev pub invariant-loop-k : goal.invariant-loop-k
@@ -17,6 +17,8 @@ invariant-loop-k l = record {
       → first_after (marked_at l.marks b) (l.n - l.k) l.k ≡ first_mark l.marks l.n b;
   was_kept : (lab : LabState) (b : Board) → RepresentsBoard (in_slice lab l.fn.machine l.fn.self) b
       → IsKept (after_steps (l.k - 1) b).machine l.marks;
+  site : (lab : LabState) (b : Board) → RepresentsBoard (in_slice lab l.fn.machine l.fn.self) b
+      → l.site ≡ last_site l.k l.fn.site b;
   kept : IsKept l.machine l.marks;
   room : l.n ≤ l.self.devices.spare + l.k;
   scratch : IsSome l.scratch;

@@ -3,7 +3,7 @@ use Rattle.i80_exec.specs.State.{MachineState}
 use Rattle.lab_core.specs.Slices.{IsSlice, after_steps, traffic_of}
 use Rattle.lab_core.specs.Labs.{LabState}
 use Rattle.lab_core.specs.Marks.{MarksState, first_mark, with_end, with_values, IsKept}
-use Rattle.lab_core.proofs.MarkLemmas.{kept-watch, first-values, end-values}
+use Rattle.lab_core.proofs.MarkLemmas.{kept-watch, first-values, end-values, site_of}
 use Rattle.lab_core.proofs.lab.Lab.run_to.Goals as goal
 
 pub steps_to-executed-requires-clause-kept : goal.steps_to-executed-requires-clause-kept
@@ -33,7 +33,12 @@ returns-clause-marks c = λ b s.
     let is : m ≡ (after_steps k b).machine =
     ap (λ (lab : LabState). lab.machine) c.self-2.view_is ∙ represents.machine in
     let K : MarksState → Type 0 = λ marks. IsKept (after_steps (k - 1) b).machine marks in
+    let begun : c.self.inside.machine ≡ b.machine =
+    ap (λ (lab : LabState). lab.machine) c.self.view_is ∙ s.machine in
+    let site = c.steps_to-executed.new.site in
+    let at = site_of b k c.pc-site.result site _ begun c.pc-site.ensures
+    (c.steps_to-executed.ensures.site b s) in
     c.finish.ensures
-    ∙ ap (λ (marks : MarksState). with_end k m marks) c.begin.ensures
-    ∙ end-values c.self.inside.machine m c.args.marks.now k b is
-    (subst K c.begin.ensures (c.steps_to-executed.ensures.kept b s))
+    ∙ ap (λ (marks : MarksState). with_end k site m marks) c.begin.ensures
+    ∙ end-values c.self.inside.machine m c.args.marks.now k site b is
+    (subst K c.begin.ensures (c.steps_to-executed.ensures.kept b s)) at

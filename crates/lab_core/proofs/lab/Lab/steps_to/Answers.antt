@@ -27,3 +27,9 @@ returns-clause-kept c = λ b s.
     let P : LabState → Type 0 = λ lab. in_slice lab c.self.inside.machine c.self.inside.context ≡ lab in
     let S : LabState → Type 0 = λ lab. RepresentsBoard lab b in
     c.steps_to.ensures.kept c.args.self.now b (subst S (sym (subst P c.self.view_is refl)) s)
+
+pub returns-clause-site : goal.returns-clause-site
+returns-clause-site c = λ b s.
+    let P : LabState → Type 0 = λ lab. in_slice lab c.self.inside.machine c.self.inside.context ≡ lab in
+    let S : LabState → Type 0 = λ lab. RepresentsBoard lab b in
+    c.steps_to.ensures.site c.args.self.now b (subst S (sym (subst P c.self.view_is refl)) s)
