@@ -44,6 +44,7 @@ use Rattle.dap_editor.specs.declared.request.EvaluateContext.TheVariants.{Repl, 
 use Rattle.dap_messages.specs.declared.message.BreakpointOptions.{BreakpointOptions}
 use Rattle.dap_editor.specs.declared.request.LineBreakpoint.{LineBreakpoint}
 use Rattle.dap_editor.specs.declared.request.FunctionBreakpoint.{FunctionBreakpoint}
+use Rattle.dap_editor.specs.declared.request.DataBreakpoint.{DataBreakpoint}
 
 -- ---- where they stand
 
@@ -156,6 +157,26 @@ function_of d =
     option_map (λ text. record { name = text; options = options_of d; is_plain = is_plain d })
     (text_at (codes "name") d)
 
+-- absent, `null`, an empty text or `write`
+abbrev pub is_write : Option Data → Bool
+is_write None = true
+is_write (Some d) = is_some (as_null d) || (is_text [] d || is_text (codes "write") d)
+
+-- without a hit count; the condition is a text
+abbrev pub is_plain_data : Data → Bool
+is_plain_data d = is_text_or_unset (codes "condition") d && is_unset (get (codes "hitCondition") d)
+
+-- where a place is changed
+abbrev pub data_breakpoint_of : Data → Option DataBreakpoint
+data_breakpoint_of d =
+    option_map (λ text. record {
+      data_id = text;
+      condition = option_text (codes "condition") d;
+      is_write = is_write (get (codes "accessType") d);
+      is_plain = is_plain_data d;
+    })
+    (text_at (codes "dataId") d)
+
 -- what each is, if each is one
 abbrev pub all_of : {T : Type 0} → (Data → Option T) → Items → Option (List T)
 all_of kind no_items = Some []
@@ -170,6 +191,9 @@ lines d = option_and_then (all_of line_of) (breakpoints d)
 
 abbrev pub functions : Data → Option (List FunctionBreakpoint)
 functions d = option_and_then (all_of function_of) (breakpoints d)
+
+abbrev pub data_breakpoints : Data → Option (List DataBreakpoint)
+data_breakpoints d = option_and_then (all_of data_breakpoint_of) (breakpoints d)
 
 -- the bytes that a text has in base64 (RFC 4648, section 4: the standard alphabet, padded)
 unfoldable pub bytes_of : Text → Option Bytes

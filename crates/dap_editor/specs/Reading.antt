@@ -86,6 +86,7 @@ editor_request d = request_in d (envelope_of d)
 abbrev pub IsCommandBounded : EditorCommand → Type 0
 IsCommandBounded (command.SetBreakpoints path lines) = length lines ≤ 256
 IsCommandBounded (command.SetFunctionBreakpoints functions) = length functions ≤ 256
+IsCommandBounded (command.SetDataBreakpoints breakpoints) = length breakpoints ≤ 256
 IsCommandBounded (command.WriteMemory to offset bytes) = length bytes ≤ 65536
 IsCommandBounded (command.Disassemble from offset instructions count) =
     (1 ≤ count) × (count ≤ 1024) × IsBackWithin 65536 instructions

@@ -16,7 +16,7 @@ use Rattle.dap_editor.specs.declared.request.EvaluateContext.TheVariants.{Other}
 use Rattle.dap_editor.specs.declared.request.EditorCommand.{EditorCommand}
 use Rattle.dap_editor.specs.declared.request.EditorCommand.TheVariants as command
 use Rattle.dap_editor.specs.Argument.{required_argument, optional, address, shift, context, functions, base64}
-use Rattle.dap_editor.specs.Argument.{granularity, filters, no_filters, lines}
+use Rattle.dap_editor.specs.Argument.{granularity, filters, no_filters, lines, data_breakpoints}
 
 abbrev pub spelling_of : EditorName → Text
 spelling_of name.Initialize = codes "initialize"
@@ -26,6 +26,8 @@ spelling_of name.Terminate = codes "terminate"
 spelling_of name.SetBreakpoints = codes "setBreakpoints"
 spelling_of name.SetFunctionBreakpoints = codes "setFunctionBreakpoints"
 spelling_of name.SetExceptionBreakpoints = codes "setExceptionBreakpoints"
+spelling_of name.DataBreakpointInfo = codes "dataBreakpointInfo"
+spelling_of name.SetDataBreakpoints = codes "setDataBreakpoints"
 spelling_of name.BreakpointLocations = codes "breakpointLocations"
 spelling_of name.ExceptionInfo = codes "exceptionInfo"
 spelling_of name.Evaluate = codes "evaluate"
@@ -99,6 +101,20 @@ set_breakpoints_asked d =
     optional (codes "breakpoints") lines [] d then_with λ breakpoints.
     Some (command.SetBreakpoints path breakpoints)
 
+-- an expression if no scope is named, and one byte if no number of them is
+abbrev pub data_breakpoint_info_asked : Data → Option EditorCommand
+data_breakpoint_info_asked d =
+    optional (codes "variablesReference") any_number 0 d then_with λ scope.
+    required_argument (codes "name") as_str d then_with λ text.
+    optional (codes "bytes") any_number 1 d then_with λ count.
+    optional (codes "asAddress") as_bool false d then_with λ is_address.
+    Some (command.DataBreakpointInfo (record {
+      scope = scope;
+      name = text;
+      count = count;
+      is_address = is_address;
+    }))
+
 -- the last line is the first one if it is absent
 abbrev pub breakpoint_locations_asked : Data → Option EditorCommand
 breakpoint_locations_asked d =
@@ -152,6 +168,9 @@ command_asked name.SetFunctionBreakpoints d =
     option_map command.SetFunctionBreakpoints (required_argument (codes "breakpoints") functions d)
 command_asked name.SetExceptionBreakpoints d =
     option_map command.SetExceptionBreakpoints (optional (codes "filters") filters no_filters d)
+command_asked name.DataBreakpointInfo d = data_breakpoint_info_asked d
+command_asked name.SetDataBreakpoints d =
+    option_map command.SetDataBreakpoints (required_argument (codes "breakpoints") data_breakpoints d)
 command_asked name.BreakpointLocations d = breakpoint_locations_asked d
 command_asked name.ExceptionInfo d = Some command.ExceptionInfo
 command_asked name.Evaluate d = evaluate_asked d
@@ -170,9 +189,10 @@ command_asked name.Goto d = option_map command.Goto (required_argument (codes "t
 abbrev pub every_name : List EditorName
 every_name =
     name.Initialize ∷ name.Launch ∷ name.Restart ∷ name.Terminate ∷ name.SetBreakpoints ∷
-    name.SetFunctionBreakpoints ∷ name.SetExceptionBreakpoints ∷ name.BreakpointLocations ∷
-    name.ExceptionInfo ∷ name.Evaluate ∷ name.ReadMemory ∷ name.WriteMemory ∷ name.Disassemble ∷
-    name.LoadedSources ∷ name.StepBack ∷ name.ReverseContinue ∷ name.GotoTargets ∷ name.Goto ∷ []
+    name.SetFunctionBreakpoints ∷ name.SetExceptionBreakpoints ∷ name.DataBreakpointInfo ∷
+    name.SetDataBreakpoints ∷ name.BreakpointLocations ∷ name.ExceptionInfo ∷ name.Evaluate ∷
+    name.ReadMemory ∷ name.WriteMemory ∷ name.Disassemble ∷ name.LoadedSources ∷ name.StepBack ∷
+    name.ReverseContinue ∷ name.GotoTargets ∷ name.Goto ∷ []
 
 -- the first of these names that is spelled like the text
 abbrev pub first_named : List EditorName → Text → Option EditorName

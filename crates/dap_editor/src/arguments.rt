@@ -11,12 +11,15 @@ ghost use Rattle.dap_editor.specs.Argument.{shift_within, shift};
 ghost use Rattle.dap_editor.specs.Argument.{context, granularity, is_text, has_text, filters, no_filters};
 ghost use Rattle.dap_editor.specs.Argument.{is_unset, some_text, option_text, options_of, is_text_or_unset};
 ghost use Rattle.dap_editor.specs.Argument.{is_plain, line_of};
+ghost use Rattle.dap_editor.specs.Argument.{is_write, is_plain_data, data_breakpoint_of};
 ghost use Rattle.dap_editor.specs.Argument.{function_of, all_of};
-ghost use Rattle.dap_editor.specs.Argument.{breakpoints, lines, functions, bytes_of, base64};
+ghost use Rattle.dap_editor.specs.Argument.{breakpoints, lines, functions, data_breakpoints};
+ghost use Rattle.dap_editor.specs.Argument.{bytes_of, base64};
 ghost use Rattle.dap_editor.specs.Table.{byte, word, any_number, offset, memory_reference};
 
 use crate::request::{
-    EvaluateContext, ExceptionFilters, FunctionBreakpoint, LineBreakpoint, SignedOffset,
+    DataBreakpoint, EvaluateContext, ExceptionFilters, FunctionBreakpoint, LineBreakpoint,
+    SignedOffset,
 };
 use base_text::sequence::{Bytes, Sequence};
 use base_text::text::Text;
@@ -330,6 +333,49 @@ fn functions_of(
     Ok(functions)
 }
 
+fn is_write(breakpoint: &Value) -> bool
+    ensures { result ≡ is_write (get (codes "accessType") (view breakpoint.now)) }
+{
+    match breakpoint.get("accessType") {
+        None => true,
+        Some(access) => access.is_null() || is_text(access, "") || is_text(access, "write"),
+    }
+}
+
+fn is_plain_data(breakpoint: &Value) -> bool
+    ensures { result ≡ is_plain_data (view breakpoint.now) }
+{
+    is_text_or_unset(breakpoint, "condition") && is_unset(breakpoint, "hitCondition")
+}
+
+fn data_breakpoint_of(alloc: Global, breakpoint: &Value) -> Result<DataBreakpoint, ArgumentFault>
+    ensures { Answers (data_breakpoint_of (view breakpoint.now)) result }
+{
+    let data_id = members::text_at(breakpoint, "dataId").ok_or(ArgumentFault::Arguments)?;
+    let data_id = Text::copy_of(alloc, data_id)?;
+    let condition = option_text(alloc, breakpoint, "condition")?;
+    Ok(DataBreakpoint {
+        data_id,
+        condition,
+        is_write: is_write(breakpoint),
+        is_plain: is_plain_data(breakpoint),
+    })
+}
+
+fn data_breakpoints_of(
+    alloc: Global,
+    breakpoints: &[Value],
+) -> Result<Sequence<DataBreakpoint>, ArgumentFault>
+    ensures answer { Answers (all_of data_breakpoint_of (items_view breakpoints.now)) result }
+    ensures count { IfOk result (λ list. length list ≡ length breakpoints.now) }
+{
+    let mut list = Sequence::new(alloc);
+    for breakpoint in breakpoints {
+        list.push(data_breakpoint_of(alloc, breakpoint)?)?;
+    }
+    Ok(list)
+}
+
 #[tactic(auto, using(dap_talk::proofs::LineLemmas::few_items))]
 fn few_breakpoints(value: &Value) -> Option<&[Value]>
     ensures value { option_map (λ bs. items_view bs.now) result
@@ -362,6 +408,19 @@ pub fn functions_at(
 {
     let breakpoints = breakpoints_at(request, key).ok_or(ArgumentFault::Arguments)?;
     functions_of(alloc, breakpoints)
+}
+
+/// The required list of breakpoints where places are changed.
+pub fn data_breakpoints_at(
+    alloc: Global,
+    request: &Value,
+    key: &str,
+) -> Result<Sequence<DataBreakpoint>, ArgumentFault>
+    ensures answer { Answers (required_argument key.now data_breakpoints (view request.now)) result }
+    ensures few { IfOk result (λ list. length list ≤ 256) }
+{
+    let breakpoints = breakpoints_at(request, key).ok_or(ArgumentFault::Arguments)?;
+    data_breakpoints_of(alloc, breakpoints)
 }
 
 fn lines_in(alloc: Global, value: &Value) -> Result<Sequence<LineBreakpoint>, ArgumentFault>

@@ -12,6 +12,8 @@ pub enum EditorName {
     SetBreakpoints,
     SetFunctionBreakpoints,
     SetExceptionBreakpoints,
+    DataBreakpointInfo,
+    SetDataBreakpoints,
     BreakpointLocations,
     ExceptionInfo,
     Evaluate,
@@ -25,7 +27,7 @@ pub enum EditorName {
     Goto,
 }
 
-const EVERY_NAME: [EditorName; 18] = [
+const EVERY_NAME: [EditorName; 20] = [
     EditorName::Initialize,
     EditorName::Launch,
     EditorName::Restart,
@@ -33,6 +35,8 @@ const EVERY_NAME: [EditorName; 18] = [
     EditorName::SetBreakpoints,
     EditorName::SetFunctionBreakpoints,
     EditorName::SetExceptionBreakpoints,
+    EditorName::DataBreakpointInfo,
+    EditorName::SetDataBreakpoints,
     EditorName::BreakpointLocations,
     EditorName::ExceptionInfo,
     EditorName::Evaluate,
@@ -61,6 +65,8 @@ impl EditorName {
             EditorName::SetBreakpoints => "setBreakpoints",
             EditorName::SetFunctionBreakpoints => "setFunctionBreakpoints",
             EditorName::SetExceptionBreakpoints => "setExceptionBreakpoints",
+            EditorName::DataBreakpointInfo => "dataBreakpointInfo",
+            EditorName::SetDataBreakpoints => "setDataBreakpoints",
             EditorName::BreakpointLocations => "breakpointLocations",
             EditorName::ExceptionInfo => "exceptionInfo",
             EditorName::Evaluate => "evaluate",

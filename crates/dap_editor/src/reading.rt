@@ -7,17 +7,18 @@ ghost use Rattle.dap_editor.specs.Table.{command_named, command_asked, launch_as
 ghost use Rattle.dap_editor.specs.Table.{initialize_asked, read_memory_asked, goto_targets_asked};
 ghost use Rattle.dap_editor.specs.Table.{write_memory_asked, disassemble_asked};
 ghost use Rattle.dap_editor.specs.Table.{set_breakpoints_asked, breakpoint_locations_asked};
+ghost use Rattle.dap_editor.specs.Table.{data_breakpoint_info_asked};
 ghost use Rattle.dap_editor.specs.Reading.{has_null_arguments, bare_request, asked_of_board, asked_of_editor};
 ghost use Rattle.dap_editor.specs.Reading.{asked_by, unreadable, editor_request, IsCommandBounded, IsBounded};
 
 use crate::arguments::{
-    byte_or_0, bytes_at, context_or_other, count_at, filters_or_none, functions_at, granularity,
-    lines_or_none, memory_reference, number_at, number_or, offset, shift_or_0, source_path,
-    text_at, text_or_empty, truth_or_false, word_at,
+    byte_or_0, bytes_at, context_or_other, count_at, data_breakpoints_at, filters_or_none,
+    functions_at, granularity, lines_or_none, memory_reference, number_at, number_or, offset,
+    shift_or_0, source_path, text_at, text_or_empty, truth_or_false, word_at,
 };
 use crate::name::EditorName;
 use crate::request::{
-    EditorCommand, EditorRequest, Launch, RequestContent, RequestFault, SupportedEvents,
+    DataQuery, EditorCommand, EditorRequest, Launch, RequestContent, RequestFault, SupportedEvents,
 };
 use base_text::text::Text;
 use dap_answers::object::Object;
@@ -90,6 +91,31 @@ fn set_exception_breakpoints(request: &Value) -> Option<EditorCommand>
     ensures bounded { IfSome result (λ c. IsCommandBounded c) }
 {
     Some(EditorCommand::SetExceptionBreakpoints(filters_or_none(request)?))
+}
+
+fn data_breakpoint_info(alloc: Global, request: &Value) -> Result<EditorCommand, ArgumentFault>
+    ensures answer { Answers (data_breakpoint_info_asked (view request.now)) result }
+    ensures bounded { IfOk result (λ c. IsCommandBounded c) }
+{
+    let scope = number_or(request, "variablesReference", 0).ok_or(ArgumentFault::Arguments)?;
+    let name = text_at(request, "name").ok_or(ArgumentFault::Arguments)?;
+    let count = number_or(request, "bytes", 1).ok_or(ArgumentFault::Arguments)?;
+    let is_address = truth_or_false(request, "asAddress").ok_or(ArgumentFault::Arguments)?;
+    let name = Text::copy_of(alloc, name)?;
+    Ok(EditorCommand::DataBreakpointInfo(DataQuery {
+        scope,
+        name,
+        count,
+        is_address,
+    }))
+}
+
+fn set_data_breakpoints(alloc: Global, request: &Value) -> Result<EditorCommand, ArgumentFault>
+    ensures answer { Answers (command_asked EditorName.SetDataBreakpoints (view request.now)) result }
+    ensures bounded { IfOk result (λ c. IsCommandBounded c) }
+{
+    let breakpoints = data_breakpoints_at(alloc, request, "breakpoints")?;
+    Ok(EditorCommand::SetDataBreakpoints(breakpoints))
 }
 
 fn breakpoint_locations(alloc: Global, request: &Value) -> Result<EditorCommand, ArgumentFault>
@@ -208,6 +234,8 @@ fn read_command(
         EditorName::SetBreakpoints => set_breakpoints(alloc, request),
         EditorName::SetFunctionBreakpoints => set_function_breakpoints(alloc, request),
         EditorName::SetExceptionBreakpoints => or_refused(set_exception_breakpoints(request)),
+        EditorName::DataBreakpointInfo => data_breakpoint_info(alloc, request),
+        EditorName::SetDataBreakpoints => set_data_breakpoints(alloc, request),
         EditorName::BreakpointLocations => breakpoint_locations(alloc, request),
         EditorName::ExceptionInfo => Ok(EditorCommand::ExceptionInfo),
         EditorName::Evaluate => evaluate(alloc, request),

@@ -71,6 +71,29 @@ pub struct FunctionBreakpoint {
     pub is_plain: bool,
 }
 
+/// What an editor asks about a data breakpoint (Debug Adapter Protocol, `dataBreakpointInfo`).
+#[derive(Drop)]
+pub struct DataQuery {
+    /// The scope in which the name is one of a variable; 0 if it is an expression.
+    pub scope: u32,
+    pub name: Text,
+    /// How many bytes, if it is in memory.
+    pub count: u32,
+    /// Whether the name is an address.
+    pub is_address: bool,
+}
+
+/// A breakpoint where a place is changed.
+#[derive(Drop)]
+pub struct DataBreakpoint {
+    pub data_id: Text,
+    pub condition: Option<Text>,
+    /// False if it is for reads too.
+    pub is_write: bool,
+    /// Whether it asks for nothing else, such as a hit count.
+    pub is_plain: bool,
+}
+
 /// The ends of a run at which an editor wants it held (Debug Adapter Protocol, `setExceptionBreakpoints`).
 #[derive(Clone, Copy)]
 pub struct ExceptionFilters {
@@ -95,6 +118,9 @@ pub enum EditorCommand {
     /// The breakpoints at labels, at most 256, in the order of the request.
     SetFunctionBreakpoints(Sequence<FunctionBreakpoint>),
     SetExceptionBreakpoints(ExceptionFilters),
+    DataBreakpointInfo(DataQuery),
+    /// The breakpoints where places are changed, at most 256, in the order of the request.
+    SetDataBreakpoints(Sequence<DataBreakpoint>),
     /// Where a source can have breakpoints, from the first line to the last.
     BreakpointLocations {
         path: Text,

@@ -4,10 +4,11 @@ use base_text::text::Text;
 use dap_answers::answer::{Body, StopReason};
 use dap_messages::json::message_json;
 use dap_messages::message::{
-    BreakpointNote, BreakpointOptions, EditorBody, EditorEvent, EditorOutcome, EditorResponse,
-    EditorStop, GotoTarget, Message, OutputCategory, PlacedBreakpoint, SourcePlace,
+    BreakpointNote, BreakpointOptions, DataInfo, EditorBody, EditorEvent, EditorOutcome,
+    EditorResponse, EditorStop, GotoTarget, Message, OutputCategory, PlacedBreakpoint, SourcePlace,
     UndefinedOpcode,
 };
+use lab_shown::place::{Place, PlaceChange};
 use std::alloc::{AllocError, Global};
 
 // A breakpoint's message, from plain values.
@@ -20,6 +21,7 @@ enum Note {
     NotSupported,
     NoLabel,
     TooMany,
+    TooManyData,
 }
 
 fn breakpoint_note(alloc: Global, note: &Note) -> Result<BreakpointNote, AllocError> {
@@ -32,6 +34,7 @@ fn breakpoint_note(alloc: Global, note: &Note) -> Result<BreakpointNote, AllocEr
         Note::NotSupported => Ok(BreakpointNote::NotSupported),
         Note::NoLabel => Ok(BreakpointNote::NoLabel),
         Note::TooMany => Ok(BreakpointNote::TooMany),
+        Note::TooManyData => Ok(BreakpointNote::TooManyData),
     }
 }
 
@@ -43,6 +46,8 @@ enum Shape {
     Breakpoints(&'static [(u32, Option<u32>, bool)]),
     // A breakpoint on a line, and its message.
     Noted(u32, Note),
+    // Identifier and description.
+    DataInfo(Option<&'static str>, &'static str),
     Locations(&'static [u32]),
     // Opcode and address.
     Exception(u8, u16),
@@ -111,12 +116,33 @@ fn target(row: Option<(u16, u32)>) -> Option<GotoTarget> {
     Some(GotoTarget { address, line })
 }
 
+fn copy_of(alloc: Global, text: &Option<&str>) -> Result<Option<Text>, AllocError> {
+    match text {
+        None => Ok(None),
+        Some(text) => Ok(Some(Text::copy_of(alloc, text)?)),
+    }
+}
+
+fn data_info(
+    alloc: Global,
+    id: &Option<&str>,
+    description: &str,
+) -> Result<EditorBody, AllocError> {
+    let data_id = copy_of(alloc, id)?;
+    let description = Text::copy_of(alloc, description)?;
+    Ok(EditorBody::DataInfo(DataInfo {
+        data_id,
+        description,
+    }))
+}
+
 fn body(alloc: Global, shape: &Shape) -> Result<EditorBody, AllocError> {
     match shape {
         Shape::Threads => Ok(EditorBody::Board(Body::Threads)),
         Shape::Capabilities => Ok(EditorBody::Capabilities),
         Shape::Breakpoints(rows) => Ok(EditorBody::Breakpoints(breakpoints(alloc, rows)?)),
         Shape::Noted(line, note) => Ok(EditorBody::Breakpoints(noted(alloc, *line, note)?)),
+        Shape::DataInfo(id, description) => data_info(alloc, id, description),
         Shape::Locations(lines) => Ok(EditorBody::Locations(Sequence::from(lines.to_vec(alloc)?))),
         Shape::Exception(opcode, pc) => Ok(EditorBody::Exception(undefined(*opcode, *pc))),
         Shape::Evaluation(text) => Ok(EditorBody::Evaluation(Text::copy_of(alloc, text)?)),
@@ -151,7 +177,7 @@ fn is_written(alloc: Global, message: &Message, json: &str) -> Result<bool, Allo
     Ok(text?.as_str() == json)
 }
 
-const BODIES: [(Shape, &str); 25] = [
+const BODIES: [(Shape, &str); 29] = [
     (Shape::Threads, r#"{"threads":[{"id":1,"name":"8080"}]}"#),
     (
         Shape::Capabilities,
@@ -159,7 +185,8 @@ const BODIES: [(Shape, &str); 25] = [
             r#"{"exceptionBreakpointFilters":[{"default":true,"filter":"undefined","#,
             r#""label":"Undefined opcodes"},{"default":false,"filter":"halt","label":"HLT"}],"#,
             r#""supportsBreakpointLocationsRequest":true,"supportsConditionalBreakpoints":true,"#,
-            r#""supportsConfigurationDoneRequest":true,"supportsDisassembleRequest":true,"#,
+            r#""supportsConfigurationDoneRequest":true,"supportsDataBreakpointBytes":true,"#,
+            r#""supportsDataBreakpoints":true,"supportsDisassembleRequest":true,"#,
             r#""supportsEvaluateForHovers":true,"supportsExceptionInfoRequest":true,"#,
             r#""supportsFunctionBreakpoints":true,"supportsGotoTargetsRequest":true,"#,
             r#""supportsLoadedSourcesRequest":true,"supportsLogPoints":true,"#,
@@ -214,6 +241,28 @@ const BODIES: [(Shape, &str); 25] = [
     (
         Shape::Noted(1, Note::TooMany),
         r#"{"breakpoints":[{"id":1,"line":1,"message":"more than 256 breakpoints","verified":false}]}"#,
+    ),
+    (
+        Shape::Noted(1, Note::TooManyData),
+        concat!(
+            r#"{"breakpoints":[{"id":1,"line":1,"message":"more than 16 data breakpoints","#,
+            r#""verified":false}]}"#,
+        ),
+    ),
+    (
+        Shape::DataInfo(Some("m 1234 2"), r#"1234 "and" 1235"#),
+        concat!(
+            r#"{"accessTypes":["write"],"canPersist":true,"dataId":"m 1234 2","#,
+            r#""description":"1234 \"and\" 1235"}"#,
+        ),
+    ),
+    (
+        Shape::DataInfo(Some(""), ""),
+        r#"{"accessTypes":["write"],"canPersist":true,"dataId":"","description":""}"#,
+    ),
+    (
+        Shape::DataInfo(None, "Undefined"),
+        r#"{"dataId":null,"description":"Undefined"}"#,
     ),
     (Shape::Locations(&[]), r#"{"breakpoints":[]}"#),
     (
@@ -307,6 +356,8 @@ enum Told {
     Stopped(EditorStop),
     // At an undefined opcode and its address.
     Excepted(u8, u16),
+    // Place, the value before, the value after, and the instruction's address.
+    Changed(Place, u16, u16, u16),
     Continued,
     Invalidated,
     Memory,
@@ -349,6 +400,15 @@ fn log(alloc: Global, text: &str, row: (&str, u32, u32)) -> Result<EditorEvent, 
     Ok(EditorEvent::Log { text, place })
 }
 
+fn change(place: Place, before: u16, after: u16, by: u16) -> EditorEvent {
+    EditorEvent::Stopped(EditorStop::Data(PlaceChange {
+        place,
+        before,
+        after,
+        by,
+    }))
+}
+
 fn event(alloc: Global, told: &Told) -> Result<EditorEvent, AllocError> {
     match told {
         Told::Initialized => Ok(EditorEvent::Initialized),
@@ -356,6 +416,7 @@ fn event(alloc: Global, told: &Told) -> Result<EditorEvent, AllocError> {
         Told::Excepted(opcode, pc) => {
             Ok(EditorEvent::Stopped(EditorStop::Exception(undefined(*opcode, *pc))))
         }
+        Told::Changed(place, before, after, by) => Ok(change(*place, *before, *after, *by)),
         Told::Continued => Ok(EditorEvent::Continued),
         Told::Invalidated => Ok(EditorEvent::Invalidated),
         Told::Memory => Ok(EditorEvent::Memory),
@@ -371,7 +432,7 @@ fn event(alloc: Global, told: &Told) -> Result<EditorEvent, AllocError> {
     }
 }
 
-const EVENTS: [(Told, &str, &str); 18] = [
+const EVENTS: [(Told, &str, &str); 28] = [
     (Told::Initialized, "", "initialized"),
     (
         Told::Stopped(EditorStop::Entry),
@@ -393,6 +454,86 @@ const EVENTS: [(Told, &str, &str); 18] = [
         concat!(
             r#""body":{"allThreadsStopped":true,"reason":"exception","#,
             r#""text":"UndefinedOpcode: 08 at 0100","threadId":1},"#,
+        ),
+        "stopped",
+    ),
+    (
+        Told::Changed(Place::Memory(0x1234), 4, 3, 0x0123),
+        concat!(
+            r#""body":{"allThreadsStopped":true,"description":"1234: 03H, was 04H, by 0123","#,
+            r#""reason":"data breakpoint","threadId":1},"#,
+        ),
+        "stopped",
+    ),
+    (
+        Told::Changed(Place::B, 4, 3, 0x0123),
+        concat!(
+            r#""body":{"allThreadsStopped":true,"description":"B: 03H, was 04H, by 0123","#,
+            r#""reason":"data breakpoint","threadId":1},"#,
+        ),
+        "stopped",
+    ),
+    (
+        Told::Changed(Place::Sp, 0x0105, 0x0103, 0x0123),
+        concat!(
+            r#""body":{"allThreadsStopped":true,"description":"SP: 0103H, was 0105H, by 0123","#,
+            r#""reason":"data breakpoint","threadId":1},"#,
+        ),
+        "stopped",
+    ),
+    (
+        Told::Changed(Place::Pc, 0xfffe, 0, 0xabcd),
+        concat!(
+            r#""body":{"allThreadsStopped":true,"description":"PC: 0000H, was FFFEH, by ABCD","#,
+            r#""reason":"data breakpoint","threadId":1},"#,
+        ),
+        "stopped",
+    ),
+    (
+        Told::Changed(Place::A, 0, 0xff, 0),
+        concat!(
+            r#""body":{"allThreadsStopped":true,"description":"A: FFH, was 00H, by 0000","#,
+            r#""reason":"data breakpoint","threadId":1},"#,
+        ),
+        "stopped",
+    ),
+    (
+        Told::Changed(Place::C, 9, 10, 0xffff),
+        concat!(
+            r#""body":{"allThreadsStopped":true,"description":"C: 0AH, was 09H, by FFFF","#,
+            r#""reason":"data breakpoint","threadId":1},"#,
+        ),
+        "stopped",
+    ),
+    (
+        Told::Changed(Place::D, 1, 2, 3),
+        concat!(
+            r#""body":{"allThreadsStopped":true,"description":"D: 02H, was 01H, by 0003","#,
+            r#""reason":"data breakpoint","threadId":1},"#,
+        ),
+        "stopped",
+    ),
+    (
+        Told::Changed(Place::E, 1, 2, 3),
+        concat!(
+            r#""body":{"allThreadsStopped":true,"description":"E: 02H, was 01H, by 0003","#,
+            r#""reason":"data breakpoint","threadId":1},"#,
+        ),
+        "stopped",
+    ),
+    (
+        Told::Changed(Place::H, 1, 2, 3),
+        concat!(
+            r#""body":{"allThreadsStopped":true,"description":"H: 02H, was 01H, by 0003","#,
+            r#""reason":"data breakpoint","threadId":1},"#,
+        ),
+        "stopped",
+    ),
+    (
+        Told::Changed(Place::L, 1, 2, 3),
+        concat!(
+            r#""body":{"allThreadsStopped":true,"description":"L: 02H, was 01H, by 0003","#,
+            r#""reason":"data breakpoint","threadId":1},"#,
         ),
         "stopped",
     ),

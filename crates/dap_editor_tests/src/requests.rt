@@ -2,8 +2,9 @@
 use base_text::text::Text;
 use dap_editor::reading::read_editor_request;
 use dap_editor::request::{
-    EditorCommand, EditorRequest, EvaluateContext, ExceptionFilters, FunctionBreakpoint, Launch,
-    LineBreakpoint, RequestContent, RequestFault, SignedOffset, SupportedEvents,
+    DataBreakpoint, DataQuery, EditorCommand, EditorRequest, EvaluateContext, ExceptionFilters,
+    FunctionBreakpoint, Launch, LineBreakpoint, RequestContent, RequestFault, SignedOffset,
+    SupportedEvents,
 };
 use dap_messages::message::BreakpointOptions;
 use lab_shown::step::Granularity;
@@ -75,16 +76,21 @@ fn put_launch(told: &mut String, launch: &Launch) -> Result<(), AllocError> {
     Ok(())
 }
 
+fn put_condition(told: &mut String, condition: &Option<Text>) -> Result<(), AllocError> {
+    if let Some(condition) = condition {
+        let text = condition.as_str();
+        write!(told, " if {text}")?;
+    }
+    Ok(())
+}
+
 // What follows a breakpoint: its options, and `?` if it asks for more.
 fn put_options(
     told: &mut String,
     options: &BreakpointOptions,
     is_plain: bool,
 ) -> Result<(), AllocError> {
-    if let Some(condition) = &options.condition {
-        let text = condition.as_str();
-        write!(told, " if {text}")?;
-    }
+    put_condition(told, &options.condition)?;
     if let Some(message) = &options.log_message {
         let text = message.as_str();
         write!(told, " log {text}")?;
@@ -119,6 +125,32 @@ fn put_functions(told: &mut String, breakpoints: &[FunctionBreakpoint]) -> Resul
     Ok(())
 }
 
+fn put_query(told: &mut String, query: &DataQuery) -> Result<(), AllocError> {
+    let scope = query.scope;
+    let name = query.name.as_str();
+    let count = query.count;
+    let address = truth_word(query.is_address);
+    write!(told, "info {scope} {count} {address} {name}")?;
+    Ok(())
+}
+
+// Each with `*` if it is for reads too, and `?` if it asks for more than a condition.
+fn put_data(told: &mut String, breakpoints: &[DataBreakpoint]) -> Result<(), AllocError> {
+    told.push_str("data")?;
+    for breakpoint in breakpoints {
+        let id = breakpoint.data_id.as_str();
+        write!(told, " {id}")?;
+        put_condition(told, &breakpoint.condition)?;
+        if !breakpoint.is_write {
+            told.push_str("*")?;
+        }
+        if !breakpoint.is_plain {
+            told.push_str("?")?;
+        }
+    }
+    Ok(())
+}
+
 // Adds a command that has to do with breakpoints.
 fn put_breakpoints(told: &mut String, command: &EditorCommand) -> Result<(), AllocError> {
     match command {
@@ -129,6 +161,8 @@ fn put_breakpoints(told: &mut String, command: &EditorCommand) -> Result<(), All
             put_functions(told, functions.as_slice())
         }
         EditorCommand::SetExceptionBreakpoints(filters) => put_filters(told, *filters),
+        EditorCommand::DataBreakpointInfo(query) => put_query(told, query),
+        EditorCommand::SetDataBreakpoints(breakpoints) => put_data(told, breakpoints.as_slice()),
         EditorCommand::BreakpointLocations { path, first, last } => {
             let path = path.as_str();
             write!(told, "locations {path} {first} {last}")?;
@@ -231,6 +265,8 @@ fn put_command(told: &mut String, command: &EditorCommand) -> Result<(), AllocEr
         EditorCommand::SetBreakpoints { .. }
         | EditorCommand::SetFunctionBreakpoints(_)
         | EditorCommand::SetExceptionBreakpoints(_)
+        | EditorCommand::DataBreakpointInfo(_)
+        | EditorCommand::SetDataBreakpoints(_)
         | EditorCommand::BreakpointLocations { .. } => put_breakpoints(told, command),
         EditorCommand::ExceptionInfo => told.push_str("exception"),
         EditorCommand::Evaluate {
@@ -380,6 +416,49 @@ setFunctionBreakpoints {"breakpoints":[{"name":"A","hitCondition":null}]} -> fun
 setFunctionBreakpoints {"breakpoints":[{"name":"A","hitCondition":3}]} -> functions A?
 setFunctionBreakpoints {"breakpoints":[{"name":"A","condition":"B","logMessage":""}]} -> functions A if B
 setFunctionBreakpoints {"breakpoints":[{"name":"A","logMessage":""}]} -> functions A
+dataBreakpointInfo {"name":"A"} -> info 0 1 false A
+dataBreakpointInfo {"variablesReference":1,"name":"SP"} -> info 1 1 false SP
+dataBreakpointInfo {"variablesReference":5,"name":"1234","bytes":2,"asAddress":false} -> info 5 2 false 1234
+dataBreakpointInfo {"name":"0x1234","bytes":4294967295,"asAddress":true} -> info 0 4294967295 true 0x1234
+dataBreakpointInfo {"variablesReference":4294967295,"name":"","bytes":0,"#,
+    r#""frameId":"x","mode":7} -> info 4294967295 0 false 
+dataBreakpointInfo {"name":7} -> Arguments
+dataBreakpointInfo {"name":null} -> Arguments
+dataBreakpointInfo {"variablesReference":1,"bytes":1} -> Arguments
+dataBreakpointInfo {"name":"A","bytes":-1} -> Arguments
+dataBreakpointInfo {"name":"A","bytes":4294967296} -> Arguments
+dataBreakpointInfo {"name":"A","bytes":null} -> Arguments
+dataBreakpointInfo {"name":"A","variablesReference":-1} -> Arguments
+dataBreakpointInfo {"name":"A","variablesReference":4294967296} -> Arguments
+dataBreakpointInfo {"name":"A","variablesReference":"1"} -> Arguments
+dataBreakpointInfo {"name":"A","asAddress":1} -> Arguments
+dataBreakpointInfo {"name":"A","asAddress":null} -> Arguments
+dataBreakpointInfo null -> Arguments
+setDataBreakpoints {"breakpoints":[]} -> data
+setDataBreakpoints {"breakpoints":[{"dataId":"A"},{"dataId":"1234","accessType":"write"}]} -> data A 1234
+setDataBreakpoints {"breakpoints":[{"dataId":""},{"dataId":"B","accessType":""}]} -> data  B
+setDataBreakpoints {"breakpoints":[{"dataId":"A","accessType":null}]} -> data A
+setDataBreakpoints {"breakpoints":[{"dataId":"A","accessType":"readWrite"}]} -> data A*
+setDataBreakpoints {"breakpoints":[{"dataId":"A","accessType":"read"},{"dataId":"B"}]} -> data A* B
+setDataBreakpoints {"breakpoints":[{"dataId":"A","accessType":"Write"}]} -> data A*
+setDataBreakpoints {"breakpoints":[{"dataId":"A","accessType":1}]} -> data A*
+setDataBreakpoints {"breakpoints":[{"dataId":"A","condition":"B","other":1}]} -> data A if B
+setDataBreakpoints {"breakpoints":[{"dataId":"A","condition":""}]} -> data A
+setDataBreakpoints {"breakpoints":[{"dataId":"A","condition":null}]} -> data A
+setDataBreakpoints {"breakpoints":[{"dataId":"A","condition":7}]} -> data A?
+setDataBreakpoints {"breakpoints":[{"dataId":"A","hitCondition":""}]} -> data A
+setDataBreakpoints {"breakpoints":[{"dataId":"A","hitCondition":null}]} -> data A
+setDataBreakpoints {"breakpoints":[{"dataId":"A","hitCondition":"2"}]} -> data A?
+setDataBreakpoints {"breakpoints":[{"dataId":"A","hitCondition":2}]} -> data A?
+setDataBreakpoints {"breakpoints":[{"dataId":"A","accessType":"readWrite","#,
+    r#""condition":"B","hitCondition":"2"}]} -> data A if B*?
+setDataBreakpoints {"breakpoints":[{"dataId":"A"},{"dataId":7}]} -> Arguments
+setDataBreakpoints {"breakpoints":[{"dataId":null}]} -> Arguments
+setDataBreakpoints {"breakpoints":[{"condition":"B"}]} -> Arguments
+setDataBreakpoints {"breakpoints":["A"]} -> Arguments
+setDataBreakpoints {"breakpoints":null} -> Arguments
+setDataBreakpoints {} -> Arguments
+setDataBreakpoints null -> Arguments
 breakpointLocations {"source":{"path":"a.asm"},"line":5} -> locations a.asm 5 5
 breakpointLocations {"source":{"path":"a.asm"},"line":5,"endLine":9,"column":1} -> locations a.asm 5 9
 breakpointLocations {"source":{"path":"a.asm"},"line":5,"endLine":0} -> locations a.asm 5 0
@@ -439,6 +518,25 @@ fn reads_requests(rt: HostRuntime) -> Result<(), Fail> {
     for row in REQUESTS.lines() {
         assert!(rt; is_read(rt.alloc(), row)?, "{row}");
     }
+    Ok(())
+}
+
+// A row that sets this many data breakpoints and one more.
+fn many_data(alloc: Global, count: usize, wanted: &str) -> Result<String, AllocError> {
+    let others = r#"{"dataId":"A"},"#.repeat(alloc, count)?;
+    format!(in alloc;
+        "setDataBreakpoints {{\"breakpoints\":[{others}{{\"dataId\":\"A\"}}]}} -> {wanted}"
+    )
+}
+
+#[test]
+fn reads_256_data_breakpoints(rt: HostRuntime) -> Result<(), Fail> {
+    let told = " A".repeat(rt.alloc(), 256)?;
+    let wanted = format!(in rt.alloc(); "data{told}")?;
+    let row = many_data(rt.alloc(), 255, wanted.as_str())?;
+    assert!(rt; is_read(rt.alloc(), row.as_str())?);
+    let row = many_data(rt.alloc(), 256, "Arguments")?;
+    assert!(rt; is_read(rt.alloc(), row.as_str())?);
     Ok(())
 }
 

@@ -11,7 +11,7 @@ ghost use Rattle.lab_shown.specs.declared.step.Granularity.TheVariants.{Line};
 ghost use Rattle.lab_core.specs.Labs.{RepresentsBoard};
 ghost use Rattle.lab_core.specs.Marks.{first_mark, marks_after};
 ghost use Rattle.dap_slice.specs.declared.conditions.ConditionalBreakpoint.{ConditionalBreakpoint};
-ghost use Rattle.dap_slice.specs.Conditions.{is_any_at};
+ghost use Rattle.dap_slice.specs.Conditions.{is_there as is_at_address, is_any_at};
 ghost use Rattle.dap_history.specs.declared.input.Recorded.{Recorded};
 ghost use Rattle.dap_history.specs.Logs.{Ascends, later_than};
 ghost use Rattle.dap_history.specs.Runs.{IsWholeSlice, RunsDetached, OnlyRunChanges};
@@ -22,7 +22,7 @@ use crate::goal::Goal;
 use crate::input::Recorded;
 use crate::log::later;
 use crate::replay::{go_on, replay};
-use dap_slice::conditions::{ConditionalBreakpoint, ConditionalBreakpoints};
+use dap_slice::conditions::{ConditionalBreakpoint, ConditionalBreakpoints, Trigger};
 use lab_core::answer::{Answer, SliceOutcome};
 use lab_core::fault::EventFault;
 use lab_core::lab::Lab;
@@ -65,6 +65,17 @@ fn plain_marks(alloc: Global, lab: &Lab) -> Result<Marks, AllocError>
     Ok(marks)
 }
 
+// Marks a breakpoint's address, if it has one: searches don't look at changes.
+fn mark_point(marks: &mut Marks, point: &ConditionalBreakpoint)
+    ensures addresses { (a : ℕ) → has marks.new.addresses a
+        ≡ (has marks.old.addresses a || is_at_address a point.now) }
+    ensures rest { marks.new ≡ record marks.old { addresses = marks.new.addresses } }
+{
+    if let Trigger::Address(address) = point.trigger {
+        marks.add_address(address);
+    }
+}
+
 // Marks the addresses of breakpoints with conditions too.
 fn mark_points(marks: &mut Marks, points: &[ConditionalBreakpoint])
     ensures addresses { (a : ℕ) → has marks.new.addresses a
@@ -72,7 +83,7 @@ fn mark_points(marks: &mut Marks, points: &[ConditionalBreakpoint])
     ensures rest { marks.new ≡ record marks.old { addresses = marks.new.addresses } }
 {
     for point in points {
-        marks.add_address(point.address);
+        mark_point(marks, point);
     }
 }
 

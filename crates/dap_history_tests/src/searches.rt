@@ -7,7 +7,7 @@ use dap_expr::expression::Expression;
 use dap_history::fault::ReplayFault;
 use dap_history::goal::Goal;
 use dap_history::search::Search;
-use dap_slice::conditions::ConditionalBreakpoint;
+use dap_slice::conditions::{ConditionalBreakpoint, Trigger};
 use lab_test_kit::script::set_breakpoints;
 use std::alloc::AllocError;
 
@@ -27,7 +27,7 @@ fn push_condition(live: &mut Live, address: u16, text: &str) -> Result<bool, All
         Err(LineFault::At { .. }) => return Ok(false),
     };
     live.points.push(ConditionalBreakpoint {
-        address,
+        trigger: Trigger::Address(address),
         condition: Some(condition),
         log: None,
     })?;

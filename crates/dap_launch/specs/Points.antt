@@ -6,10 +6,12 @@ use Rattle.lab_core.specs.Board.{Board}
 use Rattle.dap_messages.specs.declared.message.BreakpointNote.TheVariants.{NotLaunched, OtherProgram}
 use Rattle.dap_messages.specs.declared.message.PlacedBreakpoint.{PlacedBreakpoint}
 use Rattle.dap_editor.specs.declared.request.FunctionBreakpoint.{FunctionBreakpoint}
+use Rattle.dap_editor.specs.declared.request.DataBreakpoint.{DataBreakpoint}
 use Rattle.dap_points.specs.declared.points.SourceLines.{SourceLines}
 use Rattle.dap_points.specs.Points.{WantedBreakpointsState}
-use Rattle.dap_points.specs.Placed.{other_points, unlaunched_labels}
+use Rattle.dap_points.specs.Placed.{other_points, unlaunched_labels, unlaunched_data}
 use Rattle.dap_points.specs.Changes.{changed_points}
+use Rattle.dap_data.specs.Points.{points_on}
 use Rattle.dap_program.specs.Breakpoints.{lines_on}
 use Rattle.dap_launch.specs.declared.program.Program.{Program}
 use Rattle.dap_launch.specs.Programs.{labels_for, program_labels}
@@ -30,6 +32,11 @@ abbrev pub labels_where : Option Program → WantedBreakpointsState → List Fun
 labels_where None kept functions b = unlaunched_labels 0 functions
 labels_where (Some p) kept functions b = labels_for p kept functions b
 
+-- those on data
+abbrev pub data_where : Option Program → List DataBreakpoint → Board → List PlacedBreakpoint
+data_where None on_data b = unlaunched_data 0 on_data
+data_where (Some p) on_data b = points_on b on_data
+
 -- ---- when a program takes the place of what was on the board
 
 -- those that aren't what they were, of the sources from this number on
@@ -44,4 +51,5 @@ abbrev pub all_changed : Option Program → Board → Program → WantedBreakpoi
     → List PlacedBreakpoint
 all_changed before old p kept b =
     changed_from before old p b 1 kept.lists
-    ++ changed_points (labels_where before kept (take 256 kept.functions) old) (program_labels p kept b)
+    ++ (changed_points (labels_where before kept (take 256 kept.functions) old) (program_labels p kept b)
+    ++ changed_points (data_where before (take 256 kept.on_data) old) (points_on b (take 256 kept.on_data)))

@@ -1,5 +1,6 @@
 -- A launched program (Debug Adapter Protocol, `launch` and `restart`): its breakpoints, and how it begins.
-use Rattle.std.specs.Prelude.{◌≡◌, ℕ, List, [], ◌∷◌, ◌++◌, take, Bool, ◌&&◌, if◌then◌else◌, Result, IfOk}
+use Rattle.std.specs.Prelude.{◌≡◌, ◌≤◌, ℕ, List, [], ◌∷◌, ◌++◌, length, take, Bool, ◌&&◌, if◌then◌else◌}
+use Rattle.std.specs.Prelude.{Result, IfOk}
 use Rattle.std.specs.declared.alloc.AllocError.{AllocError}
 use Rattle.base_text.specs.Bytes.{Text}
 use Rattle.base_text.specs.Latin.{latin_bytes}
@@ -11,6 +12,7 @@ use Rattle.dap_messages.specs.declared.message.PlacedBreakpoint.{PlacedBreakpoin
 use Rattle.dap_editor.specs.declared.request.Launch.{Launch as LaunchOf}
 use Rattle.dap_editor.specs.declared.request.LineBreakpoint.{LineBreakpoint}
 use Rattle.dap_editor.specs.declared.request.FunctionBreakpoint.{FunctionBreakpoint}
+use Rattle.dap_editor.specs.declared.request.DataBreakpoint.{DataBreakpoint}
 use Rattle.dap_points.specs.Points.{WantedBreakpointsState, number_of, lines_at}
 use Rattle.dap_program.specs.declared.messages.FollowUp.{FollowUp}
 use Rattle.dap_program.specs.declared.messages.FollowUp.TheVariants.{Nothing, Continued, Stopped}
@@ -19,9 +21,12 @@ use Rattle.dap_program.specs.declared.opening.LoadReason.TheVariants.{Launch, Re
 use Rattle.dap_program.specs.Boards.{after, begin_run}
 use Rattle.dap_slice.specs.declared.conditions.ConditionalBreakpoint.{ConditionalBreakpoint}
 use Rattle.dap_program.specs.Breakpoints.{lines_on, board_armed_at, labels_behind}
+use Rattle.dap_data.specs.Points.{watches_on}
 use Rattle.dap_lines.specs.Conditions.{conditional_points}
 use Rattle.dap_launch.specs.declared.program.Phase.TheVariants as phase
 use Rattle.dap_launch.specs.declared.program.Program.{Program}
+use Rattle.dap_launch.specs.declared.program.ProgramBreakpoints.{ProgramBreakpoints}
+use Rattle.dap_launch.specs.declared.program.PlacedLists.{PlacedLists}
 use Rattle.dap_launch.specs.Lives.{in_phase}
 
 -- a program that was loaded, before it begins
@@ -83,6 +88,10 @@ program_board p kept b =
     let path = p.launch.program in
     armed_with p (number_of path kept.lists) (lines_at path kept.lists) (take 256 kept.functions) b
 
+-- what is watched; a run without a debugger watches nothing
+abbrev pub watches_in : Program → List DataBreakpoint → Board → List ConditionalBreakpoint
+watches_in p on_data b = if p.launch.is_debugged then watches_on b on_data else []
+
 -- those that have options; a run without a debugger has none
 abbrev pub conditional_in : Program → Board → List PlacedBreakpoint → List PlacedBreakpoint
     → List ConditionalBreakpoint
@@ -96,10 +105,28 @@ abbrev pub conditional_with : Program → ℕ → List LineBreakpoint → List F
 conditional_with p number lines functions b =
     let on_lines = lines_on b number lines in conditional_in p b on_lines (labels_behind b on_lines functions)
 
+-- they have the number of a source, and are as few as a request may have
+abbrev pub AreFew : ProgramBreakpoints → Type 0
+AreFew points =
+    (points.number ≤ 1025) × (length points.lines.now ≤ 256) × (length points.functions.now ≤ 256)
+
+-- where they are on the board
+abbrev pub placed_on : Board → ProgramBreakpoints → PlacedLists
+placed_on b points =
+    let on_lines = lines_on b points.number points.lines.now in
+    record { lines = on_lines; labels = labels_behind b on_lines points.functions.now }
+
+-- the same, and what is watched
+abbrev pub conditional_of : Program → ProgramBreakpoints → Board → List ConditionalBreakpoint
+conditional_of p points b =
+    conditional_with p points.number points.lines.now points.functions.now b
+    ++ watches_in p points.on_data.now b
+
 abbrev pub program_conditions : Program → WantedBreakpointsState → Board → List ConditionalBreakpoint
 program_conditions p kept b =
     let path = p.launch.program in
     conditional_with p (number_of path kept.lists) (lines_at path kept.lists) (take 256 kept.functions) b
+    ++ watches_in p (take 256 kept.on_data) b
 
 -- For each board that the lab represents: it was armed so, and these are its breakpoints with options.
 abbrev pub ArmsAs : (Board → Board) → (Board → List ConditionalBreakpoint) → LabState

@@ -3,16 +3,18 @@ ghost use Rattle.std.specs.Prelude.{◌≡◌, ◌≤◌, ◌+◌, ◌++◌, len
 ghost use Rattle.lab_core.specs.Board.{Board};
 ghost use Rattle.lab_core.specs.Labs.{RepresentsBoard};
 ghost use Rattle.dap_launch.specs.Points.{points_for, points_where, labels_where, changed_from};
-ghost use Rattle.dap_launch.specs.Points.{all_changed};
+ghost use Rattle.dap_launch.specs.Points.{data_where, all_changed};
+ghost use Rattle.dap_data.specs.Points.{points_on};
 ghost use Rattle.dap_points.specs.Changes.{changed_points};
 ghost use Rattle.dap_launch.specs.Programs.{program_labels};
 
 use crate::program::{LoadedProgram, Program, labels_for};
 use base_text::sequence::Sequence;
-use dap_editor::request::{FunctionBreakpoint, LineBreakpoint};
+use dap_data::points::data_points;
+use dap_editor::request::{DataBreakpoint, FunctionBreakpoint, LineBreakpoint};
 use dap_messages::message::{BreakpointNote, PlacedBreakpoint};
 use dap_points::changes::changed_points;
-use dap_points::placed::{other_points, unlaunched_labels};
+use dap_points::placed::{other_points, unlaunched_data, unlaunched_labels};
 use dap_points::points::{SourceLines, WantedBreakpoints};
 use dap_program::breakpoints::lines_on;
 use lab_core::lab::Lab;
@@ -71,6 +73,23 @@ pub fn labels_where(
     match program {
         None => unlaunched_labels(alloc, functions),
         Some(program) => labels_for(alloc, program, points, functions, lab),
+    }
+}
+
+/// The breakpoints on data of the program, if one is launched.
+pub fn data_where(
+    alloc: Global,
+    program: &Option<Program>,
+    on_data: &[DataBreakpoint],
+    lab: &Lab,
+) -> Result<Sequence<PlacedBreakpoint>, AllocError>
+    requires { length on_data.now ≤ 256 }
+    ensures { (b : Board) → RepresentsBoard lab.now b
+        → IfOk result (λ points. points ≡ data_where program.now on_data.now b) }
+{
+    match program {
+        None => unlaunched_data(alloc, on_data),
+        Some(_) => data_points(alloc, lab, on_data),
     }
 }
 
@@ -200,6 +219,24 @@ fn changed_labels(
     changed_points(alloc, told.as_slice(), labels.as_slice())
 }
 
+// The breakpoints on data that aren't what they were.
+fn changed_data(
+    alloc: Global,
+    before: &Option<Program>,
+    old: &Lab,
+    loaded: &LoadedProgram,
+    on_data: &[DataBreakpoint],
+) -> Result<Sequence<PlacedBreakpoint>, AllocError>
+    requires { length on_data.now ≤ 256 }
+    ensures { (o b : Board) → RepresentsBoard old.now o → RepresentsBoard loaded.now.lab b
+        → IfOk result (λ points. points
+        ≡ changed_points (data_where before.now on_data.now o) (points_on b on_data.now)) }
+{
+    let told = data_where(alloc, before, on_data, old)?;
+    let points = data_points(alloc, &loaded.lab, on_data)?;
+    changed_points(alloc, told.as_slice(), points.as_slice())
+}
+
 /// The breakpoints that aren't what they were, when a program takes the place of the one before, if there
 /// was one, and of its board.
 pub fn all_changed(
@@ -215,5 +252,7 @@ pub fn all_changed(
     let mut all = changed_from(alloc, before, old, loaded, points.sources())?;
     let labels = changed_labels(alloc, before, old, loaded, points)?;
     push_points(&mut all, labels)?;
+    let on_data = changed_data(alloc, before, old, loaded, points.on_data())?;
+    push_points(&mut all, on_data)?;
     Ok(all)
 }

@@ -1,16 +1,18 @@
 //! A launched program, and its breakpoints.
-ghost use Rattle.std.specs.Prelude.{◌≡◌, ◌≤◌, length, OnOk, OnErr, IfOk};
+ghost use Rattle.std.specs.Prelude.{◌≡◌, ◌≤◌, ◌++◌, length, OnOk, OnErr, IfOk};
 ghost use Rattle.lab_core.specs.Board.{Board};
 ghost use Rattle.lab_core.specs.Labs.{RepresentsBoard};
 ghost use Rattle.dap_program.specs.Boards.{begin_run};
 ghost use Rattle.dap_launch.specs.Programs.{pauses, with_input, begun_board, begun_if, board_if};
-ghost use Rattle.dap_launch.specs.Programs.{program_lines, labels_for, conditional_in, conditional_with};
+ghost use Rattle.dap_launch.specs.Programs.{program_lines, labels_for, conditional_in, conditional_of};
+ghost use Rattle.dap_launch.specs.Programs.{watches_in, AreFew, placed_on};
 ghost use Rattle.dap_launch.specs.Programs.{armed_with, ArmsAs};
 ghost use Rattle.dap_launch.specs.Programs.{program_conditions, program_board};
 
 use base_text::latin::to_bytes;
 use base_text::sequence::Sequence;
-use dap_editor::request::{FunctionBreakpoint, Launch, LineBreakpoint};
+use dap_data::points::push_watches;
+use dap_editor::request::{DataBreakpoint, FunctionBreakpoint, Launch, LineBreakpoint};
 use dap_lines::conditions::conditional_points;
 use dap_messages::message::PlacedBreakpoint;
 use dap_points::points::WantedBreakpoints;
@@ -41,6 +43,23 @@ pub struct Program {
     /// The address that END names.
     pub start: u16,
     pub phase: Phase,
+}
+
+/// The breakpoints that are wanted of a program: on its lines, which are those of the source with this
+/// number, at labels, and on data.
+#[derive(Clone, Copy)]
+pub struct ProgramBreakpoints<'a> {
+    pub number: u32,
+    pub lines: &'a [LineBreakpoint],
+    pub functions: &'a [FunctionBreakpoint],
+    pub on_data: &'a [DataBreakpoint],
+}
+
+/// Those on lines, and those at labels, on its board.
+#[derive(Drop)]
+struct PlacedLists {
+    lines: Sequence<PlacedBreakpoint>,
+    labels: Sequence<PlacedBreakpoint>,
 }
 
 /// A program on a board of its own.
@@ -171,32 +190,84 @@ fn conditional_in(
     conditional_points(alloc, lab, &program.launch.program, lines, labels)
 }
 
-/// Makes a program's board stop on these lines of the program, which is the source with this number, and at
-/// these labels, and returns those breakpoints that have options. If memory runs out the board stays as it
-/// was.
+// The breakpoints on lines and at labels that are wanted of a program's board.
+fn placed(
+    alloc: Global,
+    lab: &Lab,
+    points: &ProgramBreakpoints<'_>,
+) -> Result<PlacedLists, AllocError>
+    requires { AreFew points.now }
+    ensures { (b : Board) → RepresentsBoard lab.now b
+        → IfOk result (λ lists. lists ≡ placed_on b points.now) }
+{
+    let lines = lines_on(alloc, lab, points.number, points.lines)?;
+    let labels = labels_behind(alloc, lab, lines.as_slice(), points.functions)?;
+    Ok(PlacedLists { lines, labels })
+}
+
+// Those that have options, and what is watched.
+fn with_watches(
+    alloc: Global,
+    lab: &Lab,
+    program: &Program,
+    on_data: &[DataBreakpoint],
+    lists: &PlacedLists,
+) -> Result<ConditionalBreakpoints, AllocError>
+    ensures { (b : Board) → RepresentsBoard lab.now b → IfOk result (λ points. points
+        ≡ conditional_in program.now b lists.now.lines lists.now.labels
+        ++ watches_in program.now on_data.now b) }
+{
+    let lines = lists.lines.as_slice();
+    let mut points = conditional_in(alloc, lab, program, lines, lists.labels.as_slice())?;
+    if program.launch.is_debugged {
+        push_watches(alloc, lab, &mut points, on_data)?;
+    }
+    Ok(points)
+}
+
+/// Those of a program's breakpoints that have options, and what is watched.
+pub fn conditional_of(
+    alloc: Global,
+    lab: &Lab,
+    program: &Program,
+    points: &ProgramBreakpoints<'_>,
+) -> Result<ConditionalBreakpoints, AllocError>
+    requires { AreFew points.now }
+    ensures { (b : Board) → RepresentsBoard lab.now b
+        → IfOk result (λ found. found ≡ conditional_of program.now points.now b) }
+{
+    let lists = placed(alloc, lab, points)?;
+    with_watches(alloc, lab, program, points.on_data, &lists)
+}
+
+/// Makes a program's board stop at these breakpoints, and returns those that have options, and what is
+/// watched. If memory runs out the board stays as it was.
 pub fn arm_with(
     alloc: Global,
     lab: &mut Lab,
     program: &Program,
-    number: u32,
-    lines: &[LineBreakpoint],
-    functions: &[FunctionBreakpoint],
+    points: &ProgramBreakpoints<'_>,
 ) -> Result<ConditionalBreakpoints, AllocError>
-    requires bounds { (number ≤ 1025) × (length lines.now ≤ 256) × (length functions.now ≤ 256) }
-    ensures ok { ArmsAs (armed_with program.now number lines.now functions.now)
-        (conditional_with program.now number lines.now functions.now) lab.old result lab.new }
+    requires { AreFew points.now }
+    ensures ok { ArmsAs (armed_with program.now points.now.number points.now.lines.now points.now.functions.now)
+        (conditional_of program.now points.now) lab.old result lab.new }
     ensures err { OnErr result (lab.new ≡ lab.old) }
 {
-    let lines = lines_on(alloc, lab, number, lines)?;
-    let labels = labels_behind(alloc, lab, lines.as_slice(), functions)?;
-    let points = conditional_in(alloc, lab, program, lines.as_slice(), labels.as_slice())?;
+    let lists = placed(alloc, lab, points)?;
+    let found = with_watches(alloc, lab, program, points.on_data, &lists)?;
     let path = &program.launch.program;
-    arm(alloc, lab, path, lines.as_slice(), labels.as_slice())?;
-    Ok(points)
+    arm(
+        alloc,
+        lab,
+        path,
+        lists.lines.as_slice(),
+        lists.labels.as_slice(),
+    )?;
+    Ok(found)
 }
 
 /// Makes a program's board stop at the breakpoints that are kept for the program, and returns those that have
-/// options. If memory runs out the board stays as it was.
+/// options, and what is watched. If memory runs out the board stays as it was.
 pub fn arm_program(
     alloc: Global,
     lab: &mut Lab,
@@ -208,12 +279,11 @@ pub fn arm_program(
     ensures err { OnErr result (lab.new ≡ lab.old) }
 {
     let path = program.launch.program.as_str();
-    arm_with(
-        alloc,
-        lab,
-        program,
-        points.number_of(path),
-        points.lines_at(path),
-        points.functions(),
-    )
+    let points = ProgramBreakpoints {
+        number: points.number_of(path),
+        lines: points.lines_at(path),
+        functions: points.functions(),
+        on_data: points.on_data(),
+    };
+    arm_with(alloc, lab, program, &points)
 }

@@ -263,6 +263,7 @@ look_editing (editor.Disassemble address offset instruction_offset count) is =
     record { loads = refl; input = λ r. refl; back = refl }
 look_editing editor.LoadedSources is = record { loads = refl; input = λ r. refl; back = refl }
 look_editing (editor.GotoTargets path line) is = record { loads = refl; input = λ r. refl; back = refl }
+look_editing (editor.DataBreakpointInfo query) is = record { loads = refl; input = λ r. refl; back = refl }
 look_editing (editor.BreakpointLocations path first last) is =
     record { loads = refl; input = λ r. refl; back = refl }
 look_editing other is = absurd cc

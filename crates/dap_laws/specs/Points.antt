@@ -12,6 +12,7 @@ use Rattle.dap_messages.specs.declared.message.GotoTarget.{GotoTarget}
 use Rattle.dap_expr.specs.declared.expression.Expression.{Expression}
 use Rattle.dap_log.specs.declared.message.LogMessage.{LogMessage}
 use Rattle.dap_slice.specs.declared.conditions.ConditionalBreakpoint.{ConditionalBreakpoint}
+use Rattle.dap_slice.specs.declared.conditions.Trigger.TheVariants.{Address}
 use Rattle.dap_points.specs.Boards.{is_plain}
 use Rattle.dap_lines.specs.Conditions.{condition_read, log_read, log_point}
 use Rattle.dap_lines.specs.Targets.{first_target}
@@ -45,7 +46,7 @@ IsTold number lines functions b point =
 -- the breakpoint of a program with these options there
 abbrev pub at_target : Program → GotoTarget → Option Expression → Option LogMessage → ConditionalBreakpoint
 at_target p target condition message = record {
-  address = target.address;
+  trigger = Address target.address;
   condition = condition;
   log = option_map (log_point p.launch.program target) message;
 }

@@ -18,6 +18,7 @@ use Rattle.dap_log.specs.declared.message.LogMessage.{LogMessage}
 use Rattle.dap_log.specs.Messages.{message_of, is_undefined_on}
 use Rattle.dap_slice.specs.declared.conditions.LogPoint.{LogPoint}
 use Rattle.dap_slice.specs.declared.conditions.ConditionalBreakpoint.{ConditionalBreakpoint}
+use Rattle.dap_slice.specs.declared.conditions.Trigger.TheVariants.{Address}
 use Rattle.dap_messages.specs.declared.message.BreakpointNote.{BreakpointNote}
 use Rattle.dap_messages.specs.declared.message.BreakpointNote.TheVariants.{Wrong, NotSupported}
 use Rattle.dap_messages.specs.declared.message.BreakpointOptions.{BreakpointOptions}
@@ -94,7 +95,7 @@ log_point path target message = record { message = message; path = path; line = 
 abbrev pub with_log : Text → GotoTarget → Option Expression → Result (Option LogMessage) LogFault
     → Option ConditionalBreakpoint
 with_log path target condition (Ok message) = Some (record {
-  address = target.address;
+  trigger = Address target.address;
   condition = condition;
   log = option_map (log_point path target) message;
 })

@@ -22,7 +22,7 @@ use dap_expr::expression::Expression;
 use dap_log::message::{LogFault, LogMessage};
 use dap_messages::message::{BreakpointNote, BreakpointOptions, GotoTarget, PlacedBreakpoint};
 use dap_points::board::is_plain;
-use dap_slice::conditions::{ConditionalBreakpoint, ConditionalBreakpoints, LogPoint};
+use dap_slice::conditions::{ConditionalBreakpoint, ConditionalBreakpoints, LogPoint, Trigger};
 use lab_core::lab::Lab;
 use std::alloc::{AllocError, Global};
 
@@ -70,7 +70,8 @@ fn text_objection(
     }
 }
 
-fn condition_objection(
+/// What there is to object to this condition, if there is one.
+pub fn condition_objection(
     alloc: Global,
     lab: &Lab,
     condition: &Option<Text>,
@@ -171,7 +172,11 @@ pub fn objection(
 
 // ---- breakpoints with options
 
-fn condition_read(alloc: Global, condition: &Option<Text>) -> Result<Option<Expression>, LineFault>
+/// Reads a condition, if there is one.
+pub fn condition_read(
+    alloc: Global,
+    condition: &Option<Text>,
+) -> Result<Option<Expression>, LineFault>
     ensures { LineGives (λ condition. condition) result (condition_read condition.now) }
 {
     match condition {
@@ -219,7 +224,7 @@ fn with_log(
 {
     match log_read(alloc, log_message) {
         Ok(message) => Ok(Some(ConditionalBreakpoint {
-            address: target.address,
+            trigger: Trigger::Address(target.address),
             condition,
             log: log_point(target, path, message)?,
         })),

@@ -20,7 +20,7 @@ use Rattle.dap_messages.specs.declared.message.EditorEvent.TheVariants as event
 use Rattle.dap_messages.specs.declared.message.Message.{Message}
 use Rattle.dap_messages.specs.declared.message.Message.TheVariants.{Response, Event}
 use Rattle.dap_messages.specs.Json.{line_members, note_members, placed_json, source_json, data_members}
-use Rattle.dap_messages.specs.Json.{editor_body_json, outcome_json, stopped_json, output_json}
+use Rattle.dap_messages.specs.Json.{data_json, editor_body_json, outcome_json, stopped_json, output_json}
 use Rattle.dap_messages.specs.Json.{editor_event_json, message_json}
 
 placed_by : (id : ℕ) (line : Option ℕ) (note : Option BreakpointNote) (is_verified : Bool)
@@ -42,10 +42,15 @@ counted address [] false count = fits _ 5 refl
 counted address (byte ∷ bytes) true count = fits _ 5 refl
 counted address (byte ∷ bytes) false count = fits _ 5 refl
 
+informed : (id : Option (List ℕ)) (description : List ℕ) → depth (data_json id description) ≤ 5
+informed None description = fits _ 5 refl
+informed (Some id) description = fits _ 5 refl
+
 in_body : (b : EditorBody) → depth (editor_body_json b) ≤ 5
 in_body (body.Board b) = body_is_shallow b
 in_body (body.Breakpoints bs) =
     let h = items_within 1 placed_json placed bs in omega (arith, h)
+in_body (body.DataInfo info) = informed info.data_id info.description
 in_body (body.Locations lines) =
     let h = items_within 1 line_json (λ line. fits _ 1 refl) lines in omega (arith, h)
 in_body (body.Memory address bytes count) = counted address bytes (count == 0) count
@@ -65,6 +70,7 @@ stopped seq stop.Entry = fits _ 6 refl
 stopped seq stop.Goto = fits _ 6 refl
 stopped seq stop.Halted = fits _ 6 refl
 stopped seq (stop.Exception u) = fits _ 6 refl
+stopped seq (stop.Data c) = fits _ 6 refl
 stopped seq (stop.Board reason) = event_is_shallow seq (board.Stopped reason)
 
 in_output : (category : OutputCategory) (bytes : List ℕ) (place : Option SourcePlace)

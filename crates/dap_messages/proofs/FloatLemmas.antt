@@ -21,7 +21,7 @@ use Rattle.dap_messages.specs.declared.message.EditorEvent.TheVariants as event
 use Rattle.dap_messages.specs.declared.message.Message.{Message}
 use Rattle.dap_messages.specs.declared.message.Message.TheVariants.{Response, Event}
 use Rattle.dap_messages.specs.Json.{line_members, note_members, placed_json, source_json, data_members}
-use Rattle.dap_messages.specs.Json.{editor_body_json, outcome_json, stopped_json, output_json}
+use Rattle.dap_messages.specs.Json.{data_json, editor_body_json, outcome_json, stopped_json, output_json}
 use Rattle.dap_messages.specs.Json.{editor_event_json, message_json}
 
 placed_by : (id : ℕ) (line : Option ℕ) (note : Option BreakpointNote) (is_verified : Bool)
@@ -43,9 +43,14 @@ counted a [] false count is = rw is refl
 counted a (byte ∷ bytes) true count is = rw is refl
 counted a (byte ∷ bytes) false count is = rw is refl
 
+informed : (id : Option (List ℕ)) (description : List ℕ) → has_float (data_json id description) ≡ false
+informed None description = refl
+informed (Some id) description = refl
+
 in_body : (b : EditorBody) → has_float (editor_body_json b) ≡ false
 in_body (body.Board b) = body_has_no_float b
 in_body (body.Breakpoints bs) = rw (no_float_in placed_json placed bs) refl
+in_body (body.DataInfo info) = informed info.data_id info.description
 in_body (body.Locations lines) = rw (no_float_in line_json (λ line. refl) lines) refl
 in_body (body.Memory address bytes count) =
     counted (string (reference address)) bytes (count == 0) count refl
@@ -64,6 +69,7 @@ stopped seq stop.Entry = refl
 stopped seq stop.Goto = refl
 stopped seq stop.Halted = refl
 stopped seq (stop.Exception u) = refl
+stopped seq (stop.Data c) = refl
 stopped seq (stop.Board reason) = event_has_no_float seq (board.Stopped reason)
 
 in_output : (category : OutputCategory) (bytes : List ℕ) (place : Option SourcePlace)

@@ -2,6 +2,7 @@
 -- "Types"), beside what dap_answers has. The members of an object stand in the order of their keys' bytes.
 use Rattle.std.specs.Prelude.{
   ℕ,
+  ◌%◌,
   ◌==◌,
   if◌then◌else◌,
   true,
@@ -26,8 +27,11 @@ use Rattle.base_text.specs.Hexadecimal.{upper_byte, upper_word}
 use Rattle.base_text.specs.Latin.{latin_text}
 use Rattle.base64.specs.Engines.{standard}
 use Rattle.base64.specs.GeneralPurpose.{encode_of}
-use Rattle.serde_json.specs.Data.{Data, array, boolean, string}
+use Rattle.serde_json.specs.Data.{Data, array, boolean, null, string}
 use Rattle.serde_json.specs.View.{items_of}
+use Rattle.lab_shown.specs.declared.place.Place.{Place}
+use Rattle.lab_shown.specs.declared.place.Place.TheVariants as place
+use Rattle.lab_shown.specs.declared.place.PlaceChange.{PlaceChange}
 use Rattle.dap_answers.specs.declared.answer.Event.TheVariants as board
 use Rattle.dap_answers.specs.Json.{object_of, whole_number, list_of, one_list, reference, line_json}
 use Rattle.dap_answers.specs.Json.{body_json}
@@ -37,6 +41,7 @@ use Rattle.dap_messages.specs.declared.message.BreakpointNote.TheVariants as not
 use Rattle.dap_messages.specs.declared.message.PlacedBreakpoint.{PlacedBreakpoint}
 use Rattle.dap_messages.specs.declared.message.UndefinedOpcode.{UndefinedOpcode}
 use Rattle.dap_messages.specs.declared.message.GotoTarget.{GotoTarget}
+use Rattle.dap_messages.specs.declared.message.DataInfo.{DataInfo}
 use Rattle.dap_messages.specs.declared.message.EditorBody.{EditorBody}
 use Rattle.dap_messages.specs.declared.message.EditorBody.TheVariants as body
 use Rattle.dap_messages.specs.declared.message.EditorOutcome.{EditorOutcome}
@@ -68,6 +73,7 @@ note_text (note.Wrong why) = why
 note_text note.NotSupported = codes "hit counts are not supported"
 note_text note.NoLabel = codes "the program has no such label"
 note_text note.TooMany = codes "more than 256 breakpoints"
+note_text note.TooManyData = codes "more than 16 data breakpoints"
 
 abbrev pub note_members : Option BreakpointNote → List (Text × Data)
 note_members None = []
@@ -135,6 +141,8 @@ capabilities_json = object_of (
     can (codes "supportsBreakpointLocationsRequest") ∷
     can (codes "supportsConditionalBreakpoints") ∷
     can (codes "supportsConfigurationDoneRequest") ∷
+    can (codes "supportsDataBreakpointBytes") ∷
+    can (codes "supportsDataBreakpoints") ∷
     can (codes "supportsDisassembleRequest") ∷
     can (codes "supportsEvaluateForHovers") ∷
     can (codes "supportsExceptionInfoRequest") ∷
@@ -149,6 +157,26 @@ capabilities_json = object_of (
     can (codes "supportsSteppingGranularity") ∷
     can (codes "supportsTerminateRequest") ∷
     can (codes "supportsWriteMemoryRequest") ∷ [])
+
+-- what can be watched, with the identifier by which it is
+abbrev pub watchable_json : Text → Text → Data
+watchable_json id description = object_of (
+    (codes "accessTypes", list_of string (codes "write" ∷ [])) ∷
+    (codes "canPersist", boolean true) ∷
+    (codes "dataId", string id) ∷
+    (codes "description", string description) ∷ [])
+
+abbrev pub unwatchable_json : Text → Data
+unwatchable_json description = object_of (
+    (codes "dataId", null) ∷
+    (codes "description", string description) ∷ [])
+
+abbrev pub data_json : Option Text → Text → Data
+data_json None description = unwatchable_json description
+data_json (Some id) description = watchable_json id description
+
+abbrev pub data_info_json : DataInfo → Data
+data_info_json info = data_json info.data_id info.description
 
 -- how an exception is named, with the opcode and its address
 abbrev pub exception_text : UndefinedOpcode → Text
@@ -177,6 +205,7 @@ abbrev pub editor_body_json : EditorBody → Data
 editor_body_json (body.Board b) = body_json b
 editor_body_json body.Capabilities = capabilities_json
 editor_body_json (body.Breakpoints bs) = one_list (codes "breakpoints") placed_json bs
+editor_body_json (body.DataInfo info) = data_info_json info
 editor_body_json (body.Locations lines) = one_list (codes "breakpoints") line_json lines
 editor_body_json (body.Exception u) = exception_json u
 editor_body_json (body.Evaluation text) = evaluation_json text
@@ -225,11 +254,43 @@ stopped_at_json u = object_of (
     (codes "text", string (exception_text u)) ∷
     (codes "threadId", whole_number 1) ∷ [])
 
+-- the name under which a place is shown
+abbrev pub place_name : Place → Text
+place_name place.A = codes "A"
+place_name place.B = codes "B"
+place_name place.C = codes "C"
+place_name place.D = codes "D"
+place_name place.E = codes "E"
+place_name place.H = codes "H"
+place_name place.L = codes "L"
+place_name place.Sp = codes "SP"
+place_name place.Pc = codes "PC"
+place_name (place.Memory address) = upper_word address
+
+-- SP and PC have four digits, and the others two
+abbrev pub place_value_text : Place → ℕ → Text
+place_value_text place.Sp value = upper_word value ++ codes "H"
+place_value_text place.Pc value = upper_word value ++ codes "H"
+place_value_text other value = upper_byte (value % 256) ++ codes "H"
+
+-- the value after an instruction, the value before it, and the instruction's address
+abbrev pub change_text : PlaceChange → Text
+change_text c = place_name c.place ++ (codes ": " ++ (place_value_text c.place c.after ++
+    (codes ", was " ++ (place_value_text c.place c.before ++ (codes ", by " ++ upper_word c.by)))))
+
+abbrev pub changed_stop_json : PlaceChange → Data
+changed_stop_json c = object_of (
+    (codes "allThreadsStopped", boolean true) ∷
+    (codes "description", string (change_text c)) ∷
+    (codes "reason", string (codes "data breakpoint")) ∷
+    (codes "threadId", whole_number 1) ∷ [])
+
 abbrev pub stopped_json : ℕ → EditorStop → Data
 stopped_json seq stop.Entry = event_with_body seq (codes "stopped") (bare_stop_json (codes "entry"))
 stopped_json seq stop.Goto = event_with_body seq (codes "stopped") (bare_stop_json (codes "goto"))
 stopped_json seq stop.Halted = event_with_body seq (codes "stopped") halted_json
 stopped_json seq (stop.Exception u) = event_with_body seq (codes "stopped") (stopped_at_json u)
+stopped_json seq (stop.Data c) = event_with_body seq (codes "stopped") (changed_stop_json c)
 stopped_json seq (stop.Board reason) = event_json seq (board.Stopped reason)
 
 abbrev pub category_text : OutputCategory → Text

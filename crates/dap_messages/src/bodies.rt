@@ -7,12 +7,15 @@ ghost use Rattle.dap_answers.specs.Json.{members_from, list_of, one_list, refere
 ghost use Rattle.dap_answers.specs.Json.{whole_number};
 ghost use Rattle.dap_messages.specs.Json.{note_text, line_members, placed_json, last_part, source_json};
 ghost use Rattle.dap_messages.specs.Json.{base64_text};
-ghost use Rattle.dap_messages.specs.Json.{data_members, filter_json, filters_json, capabilities_json};
-ghost use Rattle.dap_messages.specs.Json.{target_json, evaluation_json};
+ghost use Rattle.dap_messages.specs.Json.{data_members, filter_json, filters_json};
+ghost use Rattle.dap_messages.specs.Json.{can, capabilities_json};
+ghost use Rattle.dap_messages.specs.Json.{target_json, evaluation_json, watchable_json, data_info_json};
 ghost use Rattle.dap_messages.specs.Json.{exception_text, exception_json};
 ghost use Rattle.dap_messages.specs.Json.{memory_json, written_json, editor_body_json};
 
-use crate::message::{BreakpointNote, EditorBody, GotoTarget, PlacedBreakpoint, UndefinedOpcode};
+use crate::message::{
+    BreakpointNote, DataInfo, EditorBody, GotoTarget, PlacedBreakpoint, UndefinedOpcode,
+};
 use base_text::hexadecimal::{push_byte, push_word};
 use base_text::text::Text;
 use base64::engine::general_purpose::STANDARD;
@@ -43,29 +46,48 @@ fn filters(alloc: Global) -> Result<Value, AllocError>
     Ok(Value::from(filters))
 }
 
+// The capabilities that are requests.
+fn request_capabilities(alloc: Global) -> Object
+    ensures { HasMembers result (members_from (
+        can (codes "supportsBreakpointLocationsRequest") ∷
+        can (codes "supportsConfigurationDoneRequest") ∷
+        can (codes "supportsDisassembleRequest") ∷
+        can (codes "supportsExceptionInfoRequest") ∷
+        can (codes "supportsGotoTargetsRequest") ∷
+        can (codes "supportsLoadedSourcesRequest") ∷
+        can (codes "supportsReadMemoryRequest") ∷
+        can (codes "supportsRestartRequest") ∷
+        can (codes "supportsTerminateRequest") ∷
+        can (codes "supportsWriteMemoryRequest") ∷ [])) }
+{
+    Object::new(alloc)
+        .flag("supportsBreakpointLocationsRequest", true)
+        .flag("supportsConfigurationDoneRequest", true)
+        .flag("supportsDisassembleRequest", true)
+        .flag("supportsExceptionInfoRequest", true)
+        .flag("supportsGotoTargetsRequest", true)
+        .flag("supportsLoadedSourcesRequest", true)
+        .flag("supportsReadMemoryRequest", true)
+        .flag("supportsRestartRequest", true)
+        .flag("supportsTerminateRequest", true)
+        .flag("supportsWriteMemoryRequest", true)
+}
+
 fn capabilities(alloc: Global) -> Result<Value, AllocError>
     ensures { IfOk result (λ v. view v ≡ capabilities_json) }
 {
     let filters = filters(alloc)?;
-    Object::new(alloc)
+    request_capabilities(alloc)
         .value("exceptionBreakpointFilters", filters)
-        .flag("supportsBreakpointLocationsRequest", true)
         .flag("supportsConditionalBreakpoints", true)
-        .flag("supportsConfigurationDoneRequest", true)
-        .flag("supportsDisassembleRequest", true)
+        .flag("supportsDataBreakpointBytes", true)
+        .flag("supportsDataBreakpoints", true)
         .flag("supportsEvaluateForHovers", true)
-        .flag("supportsExceptionInfoRequest", true)
         .flag("supportsFunctionBreakpoints", true)
-        .flag("supportsGotoTargetsRequest", true)
-        .flag("supportsLoadedSourcesRequest", true)
         .flag("supportsLogPoints", true)
-        .flag("supportsReadMemoryRequest", true)
-        .flag("supportsRestartRequest", true)
         .flag("supportsSetVariable", true)
         .flag("supportsStepBack", true)
         .flag("supportsSteppingGranularity", true)
-        .flag("supportsTerminateRequest", true)
-        .flag("supportsWriteMemoryRequest", true)
         .finish()
 }
 
@@ -87,6 +109,7 @@ fn note_text(alloc: Global, note: &BreakpointNote) -> Result<Text, AllocError>
         }
         BreakpointNote::NoLabel => text.push_str("the program has no such label")?,
         BreakpointNote::TooMany => text.push_str("more than 256 breakpoints")?,
+        BreakpointNote::TooManyData => text.push_str("more than 16 data breakpoints")?,
     }
     Ok(Text::from(text))
 }
@@ -169,6 +192,40 @@ fn sources(alloc: Global, paths: &[Text]) -> Result<Value, AllocError>
 {
     let values = every_source(alloc, paths)?;
     Object::new(alloc).value("sources", values).finish()
+}
+
+fn access_types(alloc: Global) -> Result<Value, AllocError>
+    ensures { IfOk result (λ v. view v ≡ list_of string (codes "write" ∷ [])) }
+{
+    let write = String::from_str(alloc, "write")?;
+    let mut types = Vec::new(alloc);
+    types.push(Value::from(write))?;
+    Ok(Value::from(types))
+}
+
+fn watchable(alloc: Global, id: &str, description: &str) -> Result<Value, AllocError>
+    ensures { IfOk result (λ v. view v ≡ watchable_json id.now description.now) }
+{
+    let types = access_types(alloc)?;
+    Object::new(alloc)
+        .text("dataId", id)
+        .text("description", description)
+        .value("accessTypes", types)
+        .flag("canPersist", true)
+        .finish()
+}
+
+fn data_info(alloc: Global, info: &DataInfo) -> Result<Value, AllocError>
+    ensures { IfOk result (λ v. view v ≡ data_info_json info.now) }
+{
+    let description = info.description.as_str();
+    match &info.data_id {
+        None => Object::new(alloc)
+            .value("dataId", Value::Null)
+            .text("description", description)
+            .finish(),
+        Some(id) => watchable(alloc, id.as_str(), description),
+    }
 }
 
 /// How an exception is named, with the opcode and its address.
@@ -280,6 +337,7 @@ pub fn editor_body_json(alloc: Global, body: &EditorBody) -> Result<Value, Alloc
         EditorBody::Board(body) => body_json(alloc, body),
         EditorBody::Capabilities => capabilities(alloc),
         EditorBody::Breakpoints(list) => breakpoints(alloc, list.as_slice()),
+        EditorBody::DataInfo(info) => data_info(alloc, info),
         EditorBody::Locations(lines) => locations(alloc, lines.as_slice()),
         EditorBody::Exception(undefined) => exception(alloc, *undefined),
         EditorBody::Evaluation(text) => evaluation(alloc, text.as_str()),

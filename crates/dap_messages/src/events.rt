@@ -1,11 +1,12 @@
 //! The JSON of events.
-ghost use Rattle.std.specs.Prelude.{◌≡◌, IfOk, [], ◌∷◌, codes};
+ghost use Rattle.std.specs.Prelude.{◌≡◌, IfOk, OnOk, [], ◌∷◌, ◌++◌, codes, string_bytes};
 ghost use Rattle.serde_json.specs.Data.{string};
 ghost use Rattle.serde_json.specs.View.{view};
 ghost use Rattle.dap_answers.specs.Json.{object_of, list_of};
 ghost use Rattle.dap_answers.specs.Object.{HasMembers};
 ghost use Rattle.dap_answers.specs.Json.{members_from};
 ghost use Rattle.dap_messages.specs.Json.{bare_stop_json, halted_json, stopped_at_json, stopped_json};
+ghost use Rattle.dap_messages.specs.Json.{place_name, place_value_text, change_text, changed_stop_json};
 ghost use Rattle.dap_messages.specs.Json.{bare_output, placed_output};
 ghost use Rattle.dap_messages.specs.Json.{invalidated_json, memory_changed_json};
 ghost use Rattle.dap_messages.specs.Json.{output_json, log_json, changed_json, exited_json};
@@ -15,12 +16,14 @@ use crate::bodies::{exception_text, source};
 use crate::message::{
     EditorEvent, EditorStop, OutputCategory, PlacedBreakpoint, SourcePlace, UndefinedOpcode,
 };
+use base_text::hexadecimal::{push_byte, push_word};
 use base_text::latin;
 use base_text::text::Text;
 use dap_answers::answer::Event;
 use dap_answers::json::{ToJson, reference};
 use dap_answers::object::Object;
 use dap_answers::sending::{bare_event, event, event_with_body};
+use lab_shown::place::{Place, PlaceChange};
 use serde_json::Value;
 use std::alloc::{AllocError, Global};
 
@@ -72,6 +75,60 @@ fn stopped_at_body(alloc: Global, undefined: UndefinedOpcode) -> Result<Value, A
         .finish()
 }
 
+fn push_place(text: &mut String, place: Place) -> Result<(), AllocError>
+    ensures { OnOk result (string_bytes text.new ≡ string_bytes text.old ++ place_name place) }
+{
+    match place {
+        Place::A => text.push_str("A"),
+        Place::B => text.push_str("B"),
+        Place::C => text.push_str("C"),
+        Place::D => text.push_str("D"),
+        Place::E => text.push_str("E"),
+        Place::H => text.push_str("H"),
+        Place::L => text.push_str("L"),
+        Place::Sp => text.push_str("SP"),
+        Place::Pc => text.push_str("PC"),
+        Place::Memory(address) => push_word(text, address),
+    }
+}
+
+fn push_value(text: &mut String, place: Place, value: u16) -> Result<(), AllocError>
+    ensures { OnOk result (string_bytes text.new
+        ≡ string_bytes text.old ++ place_value_text place value) }
+{
+    match place {
+        Place::Sp | Place::Pc => push_word(text, value)?,
+        _ => push_byte(text, (value % 256) as u8)?,
+    }
+    text.push_str("H")
+}
+
+fn change_text(alloc: Global, change: PlaceChange) -> Result<Text, AllocError>
+    ensures { IfOk result (λ text. text ≡ change_text change) }
+{
+    let mut text = String::new(alloc);
+    push_place(&mut text, change.place)?;
+    text.push_str(": ")?;
+    push_value(&mut text, change.place, change.after)?;
+    text.push_str(", was ")?;
+    push_value(&mut text, change.place, change.before)?;
+    text.push_str(", by ")?;
+    push_word(&mut text, change.by)?;
+    Ok(Text::from(text))
+}
+
+fn changed_body(alloc: Global, change: PlaceChange) -> Result<Value, AllocError>
+    ensures { IfOk result (λ v. view v ≡ changed_stop_json change) }
+{
+    let text = change_text(alloc, change)?;
+    Object::new(alloc)
+        .text("reason", "data breakpoint")
+        .text("description", text.as_str())
+        .number("threadId", 1)
+        .flag("allThreadsStopped", true)
+        .finish()
+}
+
 fn stopped(alloc: Global, seq: u64, reason: EditorStop) -> Result<Value, AllocError>
     ensures { IfOk result (λ v. view v ≡ stopped_json seq reason) }
 {
@@ -81,6 +138,9 @@ fn stopped(alloc: Global, seq: u64, reason: EditorStop) -> Result<Value, AllocEr
         EditorStop::Halted => event_with_body(alloc, seq, "stopped", halted_body(alloc)?),
         EditorStop::Exception(undefined) => {
             event_with_body(alloc, seq, "stopped", stopped_at_body(alloc, undefined)?)
+        }
+        EditorStop::Data(change) => {
+            event_with_body(alloc, seq, "stopped", changed_body(alloc, change)?)
         }
         EditorStop::Board(reason) => event(alloc, seq, Event::Stopped(reason)),
     }

@@ -2,6 +2,7 @@
 use base_text::sequence::{Bytes, Sequence};
 use base_text::text::Text;
 use dap_answers::answer::{Body, StopReason};
+use lab_shown::place::PlaceChange;
 
 /// Why a breakpoint isn't verified, or isn't on the line that was asked for.
 #[derive(Clone, Drop)]
@@ -19,6 +20,7 @@ pub enum BreakpointNote {
     NotSupported,
     NoLabel,
     TooMany,
+    TooManyData,
 }
 
 /// What an editor asks of a breakpoint beside its place (Debug Adapter Protocol, "SourceBreakpoint").
@@ -58,6 +60,15 @@ pub struct GotoTarget {
     pub line: u32,
 }
 
+/// What a data breakpoint would watch (Debug Adapter Protocol, `dataBreakpointInfo`).
+#[derive(Drop)]
+pub struct DataInfo {
+    /// By which it is set; `None` if it can't be watched.
+    pub data_id: Option<Text>,
+    /// What it is, or why it can't be watched.
+    pub description: Text,
+}
+
 /// The body of a successful response.
 #[derive(Drop)]
 pub enum EditorBody {
@@ -65,8 +76,10 @@ pub enum EditorBody {
     Board(Body),
     /// Of `initialize`: what this debugger supports.
     Capabilities,
-    /// Of `setBreakpoints` and `setFunctionBreakpoints`.
+    /// Of `setBreakpoints`, `setFunctionBreakpoints` and `setDataBreakpoints`.
     Breakpoints(Sequence<PlacedBreakpoint>),
+    /// Of `dataBreakpointInfo`.
+    DataInfo(DataInfo),
     /// Of `breakpointLocations`: their lines.
     Locations(Sequence<u32>),
     /// Of `exceptionInfo`.
@@ -114,6 +127,8 @@ pub enum EditorStop {
     Exception(UndefinedOpcode),
     /// Where PC was set.
     Goto,
+    /// Behind an instruction that changed a watched place. The values are bytes unless the place is SP or PC.
+    Data(PlaceChange),
     Board(StopReason),
 }
 

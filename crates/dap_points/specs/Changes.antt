@@ -15,6 +15,7 @@ is_same_note (note.Wrong why) (note.Wrong why') = bytes_eq why why'
 is_same_note note.NotSupported note.NotSupported = true
 is_same_note note.NoLabel note.NoLabel = true
 is_same_note note.TooMany note.TooMany = true
+is_same_note note.TooManyData note.TooManyData = true
 is_same_note n n' = false
 
 abbrev pub is_same_option : {T : Type 0} → (T → T → Bool) → Option T → Option T → Bool

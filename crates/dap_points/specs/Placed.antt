@@ -1,17 +1,20 @@
 -- Breakpoints as an editor is told of them: their numbers, where each is met, or why it isn't (Debug Adapter
 -- Protocol, "Breakpoint").
 use Rattle.std.specs.Prelude.{ℕ, ◌+◌, ◌*◌, ◌-◌, ◌==◌, List, [], ◌∷◌, Bool, true, false, if◌then◌else◌}
-use Rattle.std.specs.Prelude.{Option, Some, None}
+use Rattle.std.specs.Prelude.{nat_lt, Option, Some, None}
+use Rattle.base_text.specs.Bytes.{Text}
+use Rattle.dap_editor.specs.declared.request.DataBreakpoint.{DataBreakpoint}
 use Rattle.dap_editor.specs.declared.request.LineBreakpoint.{LineBreakpoint}
 use Rattle.dap_editor.specs.declared.request.FunctionBreakpoint.{FunctionBreakpoint}
 use Rattle.dap_messages.specs.declared.message.BreakpointNote.{BreakpointNote}
 use Rattle.dap_messages.specs.declared.message.BreakpointNote.TheVariants as note
 use Rattle.dap_messages.specs.declared.message.BreakpointOptions.{BreakpointOptions}
 use Rattle.dap_messages.specs.declared.message.PlacedBreakpoint.{PlacedBreakpoint}
+use Rattle.dap_points.specs.declared.placed.CheckedData.{CheckedData}
 use Rattle.dap_points.specs.declared.placed.LandedLine.{LandedLine}
 use Rattle.dap_points.specs.declared.placed.FoundLabel.{FoundLabel}
 
--- the breakpoint at a place of a source's list; labels have the number 0
+-- The breakpoint at a place of a source's list. Labels have the number 0, data 1,025, which no source has.
 abbrev pub id_at : ℕ → ℕ → ℕ
 id_at number index = 256 * number + (index + 1)
 
@@ -95,3 +98,35 @@ abbrev pub unlaunched_labels : ℕ → List FunctionBreakpoint → List PlacedBr
 unlaunched_labels index [] = []
 unlaunched_labels index (f ∷ fs) =
     unmet_at (id_at 0 index) None (why_unmet note.NotLaunched f.is_plain) ∷ unlaunched_labels (index + 1) fs
+
+-- ---- on data
+
+-- it is met where the data changes and its condition is true
+abbrev pub watched_at : ℕ → Option Text → PlacedBreakpoint
+watched_at id condition = record {
+  id = id;
+  line = None;
+  options = record { condition = condition; log_message = None };
+  is_verified = true;
+  note = None;
+}
+
+-- the first 16 are watched, unless there is something to object to one
+abbrev pub data_point_unless : Option BreakpointNote → ℕ → CheckedData → PlacedBreakpoint
+data_point_unless None index d =
+    if nat_lt index 16 then watched_at (id_at 1025 index) d.condition
+    else unmet_at (id_at 1025 index) None note.TooManyData
+data_point_unless (Some why) index d = unmet_at (id_at 1025 index) None why
+
+abbrev pub data_point : ℕ → CheckedData → PlacedBreakpoint
+data_point index d = data_point_unless d.objection index d
+
+abbrev pub data_points : ℕ → List CheckedData → List PlacedBreakpoint
+data_points index [] = []
+data_points index (d ∷ ds) = data_point index d ∷ data_points (index + 1) ds
+
+-- as long as there is no program
+abbrev pub unlaunched_data : ℕ → List DataBreakpoint → List PlacedBreakpoint
+unlaunched_data index [] = []
+unlaunched_data index (d ∷ ds) =
+    unmet_at (id_at 1025 index) None (why_unmet note.NotLaunched d.is_plain) ∷ unlaunched_data (index + 1) ds

@@ -18,7 +18,8 @@ pub fn is_same_note(first: &BreakpointNote, second: &BreakpointNote) -> bool
         (BreakpointNote::NotLaunched, BreakpointNote::NotLaunched)
         | (BreakpointNote::NotSupported, BreakpointNote::NotSupported)
         | (BreakpointNote::NoLabel, BreakpointNote::NoLabel)
-        | (BreakpointNote::TooMany, BreakpointNote::TooMany) => true,
+        | (BreakpointNote::TooMany, BreakpointNote::TooMany)
+        | (BreakpointNote::TooManyData, BreakpointNote::TooManyData) => true,
         _ => false,
     }
 }

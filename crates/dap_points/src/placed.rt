@@ -4,9 +4,11 @@ ghost use Rattle.dap_points.specs.Placed.{id_at, met_at, unmet_at, moved_note, l
 ghost use Rattle.dap_points.specs.Placed.{line_points};
 ghost use Rattle.dap_points.specs.Placed.{why_unmet, other_points, at_label, label_point};
 ghost use Rattle.dap_points.specs.Placed.{room_after, label_points, unlaunched_labels};
+ghost use Rattle.dap_points.specs.Placed.{watched_at, data_point, data_points, unlaunched_data};
 
 use base_text::sequence::Sequence;
-use dap_editor::request::{FunctionBreakpoint, LineBreakpoint};
+use base_text::text::Text;
+use dap_editor::request::{DataBreakpoint, FunctionBreakpoint, LineBreakpoint};
 use dap_messages::message::{BreakpointNote, BreakpointOptions, PlacedBreakpoint};
 use std::alloc::{AllocError, Global};
 
@@ -28,6 +30,20 @@ pub struct FoundLabel {
     /// What there is to object to it, wherever the label is.
     pub objection: Option<BreakpointNote>,
 }
+
+/// A breakpoint on data.
+#[derive(Drop)]
+pub struct CheckedData {
+    pub condition: Option<Text>,
+    /// What there is to object to it.
+    pub objection: Option<BreakpointNote>,
+}
+
+/// The number of the list of breakpoints on data, where a source has its own.
+const DATA_NUMBER: u32 = 1025;
+
+/// How many places at most are watched: the first ones of a request.
+pub const MOST_DATA: usize = 16;
 
 /// Of a breakpoint that is never met.
 const NO_OPTIONS: BreakpointOptions = BreakpointOptions {
@@ -232,6 +248,73 @@ pub fn unlaunched_labels(
     while let Some((label, later)) = left.split_first() {
         let note = why_unmet(&BreakpointNote::NotLaunched, label.is_plain)?;
         points.push(unmet_at(id_at(0, index), None, note))?;
+        index += 1;
+        left = later;
+    }
+    Ok(points)
+}
+
+// A breakpoint that is met where data changes.
+fn watched_at(id: u32, condition: Option<Text>) -> PlacedBreakpoint
+    ensures { result ≡ watched_at id condition }
+{
+    PlacedBreakpoint {
+        id,
+        line: None,
+        options: BreakpointOptions {
+            condition,
+            log_message: None,
+        },
+        is_verified: true,
+        note: None,
+    }
+}
+
+fn data_point(index: usize, checked: &CheckedData) -> Result<PlacedBreakpoint, AllocError>
+    requires { index < 256 }
+    ensures { IfOk result (λ point. point ≡ data_point index checked.now) }
+{
+    let id = id_at(DATA_NUMBER, index);
+    match &checked.objection {
+        Some(why) => Ok(unmet_at(id, None, why.clone()?)),
+        None if index < MOST_DATA => Ok(watched_at(id, checked.condition.clone()?)),
+        None => Ok(unmet_at(id, None, BreakpointNote::TooManyData)),
+    }
+}
+
+/// The breakpoints on data of a program.
+pub fn data_points(
+    alloc: Global,
+    checked: &[CheckedData],
+) -> Result<Sequence<PlacedBreakpoint>, AllocError>
+    requires { length checked.now ≤ 256 }
+    ensures { IfOk result (λ points. points ≡ data_points 0 checked.now) }
+{
+    let mut points = Sequence::new(alloc);
+    let mut index = 0;
+    let mut left = checked;
+    while let Some((first, later)) = left.split_first() {
+        points.push(data_point(index, first)?)?;
+        index += 1;
+        left = later;
+    }
+    Ok(points)
+}
+
+/// The breakpoints on data, as long as there is no program.
+pub fn unlaunched_data(
+    alloc: Global,
+    breakpoints: &[DataBreakpoint],
+) -> Result<Sequence<PlacedBreakpoint>, AllocError>
+    requires { length breakpoints.now ≤ 256 }
+    ensures { IfOk result (λ points. points ≡ unlaunched_data 0 breakpoints.now) }
+{
+    let mut points = Sequence::new(alloc);
+    let mut index = 0;
+    let mut left = breakpoints;
+    while let Some((first, later)) = left.split_first() {
+        let note = why_unmet(&BreakpointNote::NotLaunched, first.is_plain)?;
+        points.push(unmet_at(id_at(DATA_NUMBER, index), None, note))?;
         index += 1;
         left = later;
     }

@@ -4,14 +4,14 @@ ghost use Rattle.dap_points.specs.Points.{no_points, place_of, number_of, has_pl
 
 use base_text::sequence::Sequence;
 use base_text::text::Text;
-use dap_editor::request::{FunctionBreakpoint, LineBreakpoint};
+use dap_editor::request::{DataBreakpoint, FunctionBreakpoint, LineBreakpoint};
 use std::alloc::{AllocError, Global};
 use std::marker::Model;
 
 /// The most sources whose breakpoints are kept.
 pub const MOST_SOURCES: usize = 1024;
 
-/// The most lines of a source, and the most labels, that are used.
+/// The most lines of a source, the most labels, and the most breakpoints on data, that are used.
 pub const MOST_POINTS: usize = 256;
 
 /// The breakpoints of a source, in the order of the request.
@@ -31,12 +31,13 @@ impl SourceLines {
     }
 }
 
-/// The breakpoints that an editor has set: on the lines of each source, and at labels. A source whose
-/// breakpoints are removed keeps its place.
+/// The breakpoints that an editor has set: on the lines of each source, at labels, and on data. A source
+/// whose breakpoints are removed keeps its place.
 #[derive(Drop)]
 pub struct WantedBreakpoints {
     lists: Vec<SourceLines>,
     functions: Sequence<FunctionBreakpoint>,
+    on_data: Sequence<DataBreakpoint>,
 }
 
 impl Model for WantedBreakpoints {
@@ -45,7 +46,11 @@ impl Model for WantedBreakpoints {
 
     ghost Value = { WantedBreakpointsState };
 
-    ghost view = { λ p. record { lists = p.lists.items; functions = p.functions } };
+    ghost view = { λ p. record {
+      lists = p.lists.items;
+      functions = p.functions;
+      on_data = p.on_data;
+    } };
 
     // Room for all is made at the start.
     ghost invariant = { λ p. (length p.lists.items ≤ 1024) × (1024 ≤ vec_capacity p.lists) };
@@ -80,6 +85,7 @@ impl WantedBreakpoints {
         Ok(WantedBreakpoints {
             lists,
             functions: Sequence::new(alloc),
+            on_data: Sequence::new(alloc),
         })
     }
 
@@ -131,6 +137,14 @@ impl WantedBreakpoints {
         first(self.functions.as_slice())
     }
 
+    /// The breakpoints on data.
+    pub fn on_data(&self) -> &[DataBreakpoint]
+        ensures points { result.now ≡ take 256 self.now.on_data }
+        ensures few { length result.now ≤ 256 }
+    {
+        first(self.on_data.as_slice())
+    }
+
     /// Gives a source these breakpoints, without allocating.
     pub fn set_lines(&mut self, path: Text, lines: Sequence<LineBreakpoint>)
         requires { has_place path self.old.lists ≡ true }
@@ -149,5 +163,12 @@ impl WantedBreakpoints {
         ensures { self.new ≡ record self.old { functions = functions } }
     {
         self.functions = functions;
+    }
+
+    /// Replaces the breakpoints on data by these.
+    pub fn set_data(&mut self, points: Sequence<DataBreakpoint>)
+        ensures { self.new ≡ record self.old { on_data = points } }
+    {
+        self.on_data = points;
     }
 }

@@ -1,6 +1,6 @@
 -- A slice of a program's run, and the messages about it.
 use Rattle.std.specs.Prelude.{◌≡◌, ℕ, List, [], ◌∷◌, ◌++◌, length, Bool, false, not, ◌&&◌, ◌||◌, ◌==◌}
-use Rattle.std.specs.Prelude.{None, codes}
+use Rattle.std.specs.Prelude.{Option, Some, None, codes}
 use Rattle.std.specs.Prelude.{if◌then◌else◌, map, Result, IfOk}
 use Rattle.std.specs.declared.alloc.AllocError.{AllocError}
 use Rattle.lab_core.specs.declared.run_state.RunState.TheVariants.{Running}
@@ -11,6 +11,8 @@ use Rattle.i80_exec.specs.declared.ports.PortOperation.{PortOperation}
 use Rattle.i80_exec.specs.declared.ports.PortOperation.TheVariants.{In, Out}
 use Rattle.lab_core.specs.declared.answer.SliceOutcome.{SliceOutcome}
 use Rattle.lab_core.specs.declared.answer.SliceOutcome.TheVariants as outcome
+use Rattle.lab_shown.specs.declared.place.PlaceChange.{PlaceChange}
+use Rattle.lab_core.specs.declared.answer.Stop.{Stop}
 use Rattle.lab_core.specs.declared.answer.End.{End}
 use Rattle.lab_core.specs.declared.answer.End.TheVariants as end
 use Rattle.lab_core.specs.Board.{Board}
@@ -20,13 +22,14 @@ use Rattle.i80_devs.specs.Console.{written_to_console, wants_line}
 use Rattle.dap_board.specs.Names.{reason_of}
 use Rattle.dap_messages.specs.declared.message.EditorEvent.{EditorEvent}
 use Rattle.dap_messages.specs.declared.message.EditorEvent.TheVariants as event
-use Rattle.dap_messages.specs.declared.message.EditorStop.TheVariants.{Board as AtBoard}
+use Rattle.dap_messages.specs.declared.message.EditorStop.{EditorStop}
+use Rattle.dap_messages.specs.declared.message.EditorStop.TheVariants.{Board as AtBoard, Data}
 use Rattle.dap_messages.specs.declared.message.OutputCategory.{OutputCategory}
 use Rattle.dap_messages.specs.declared.message.OutputCategory.TheVariants as category
 use Rattle.dap_slice.specs.declared.conditions.ConditionalBreakpoint.{ConditionalBreakpoint}
 use Rattle.dap_slice.specs.declared.logs.LogLine.{LogLine}
 use Rattle.dap_slice.specs.Logs.{logs_before}
-use Rattle.dap_slice.specs.SliceEnds.{slice_end_within}
+use Rattle.dap_slice.specs.SliceEnds.{slice_end_within, change_after}
 use Rattle.dap_editor.specs.declared.request.ExceptionFilters.{ExceptionFilters}
 use Rattle.dap_program.specs.declared.slice.Slice.{Slice}
 use Rattle.dap_program.specs.declared.end.EndPolicy.{EndPolicy}
@@ -84,28 +87,29 @@ policy_events Hold e = event.Stopped (stop_at e) ∷ []
 abbrev pub run_end_events : EndPolicy → End → List EditorEvent
 run_end_events policy e = exception_events e ++ policy_events policy e
 
--- by the ends at which the run is held
-abbrev pub outcome_events : ExceptionFilters → SliceOutcome → List EditorEvent
-outcome_events held outcome.More = []
-outcome_events held outcome.Waiting = []
-outcome_events held (outcome.Stop s) = event.Stopped (AtBoard (reason_of s)) ∷ []
-outcome_events held (outcome.End e) = run_end_events (policy_at held e) e
+-- why the run is stopped: by a change of a watched place, or for the board's reason
+abbrev pub stop_of : Option PlaceChange → Stop → EditorStop
+stop_of None s = AtBoard (reason_of s)
+stop_of (Some change) s = Data change
 
--- what the program does in a slice with these port operations and this outcome, which may ask for a line
-abbrev pub run_events : ExceptionFilters → Bool → List PortOperation → SliceOutcome → List EditorEvent
-run_events held asks traffic ending =
-    console_events (filter_map written_to_console traffic) ++ (line_events asks ++ outcome_events held ending)
+-- by the change that was seen, and the ends at which the run is held
+abbrev pub outcome_events : ExceptionFilters → Option PlaceChange → SliceOutcome → List EditorEvent
+outcome_events held change outcome.More = []
+outcome_events held change outcome.Waiting = []
+outcome_events held change (outcome.Stop s) = event.Stopped (stop_of change s) ∷ []
+outcome_events held change (outcome.End e) = run_end_events (policy_at held e) e
+
+-- what the program writes in a slice with these port operations, which may ask for a line, and then these
+-- events
+abbrev pub run_events : Bool → List PortOperation → List EditorEvent → List EditorEvent
+run_events asks traffic events =
+    console_events (filter_map written_to_console traffic) ++ (line_events asks ++ events)
 
 abbrev pub log_event : LogLine → EditorEvent
 log_event l = event.Log l.text (record { path = l.path; line = l.line; column = 1 })
 
 abbrev pub log_events : List LogLine → List EditorEvent
 log_events logs = map log_event logs
-
--- the events of a slice that begins with these log messages
-abbrev pub slice_events : List LogLine → ExceptionFilters → Bool → List PortOperation → SliceOutcome
-    → List EditorEvent
-slice_events logs held asks traffic ending = log_events logs ++ run_events held asks traffic ending
 
 -- ---- the slice
 
@@ -116,11 +120,13 @@ pub record SliceContext : Type 0 where
   pub held : ExceptionFilters
   pub has_asked : Bool
 
--- the events of a slice from a board that ends there and so
+-- the events of a slice from a board that ends there and so, behind the log messages with which it begins
 abbrev pub events_to : ℕ × SliceOutcome → SliceContext → Board → List EditorEvent
 events_to end c b =
     let traffic = traffic_of end.0 b in
-    slice_events (logs_before c.points end.0 b) c.held (asks_line c.has_asked end.0 traffic) traffic end.1
+    let events = outcome_events c.held (change_after c.points end b) end.1 in
+    log_events (logs_before c.points end.0 b)
+    ++ run_events (asks_line c.has_asked end.0 traffic) traffic events
 
 -- what such a slice is on a board
 pub record IsSliceOf (end : ℕ × SliceOutcome) (c : SliceContext) (b : Board) (s : Slice) (lab : LabState)

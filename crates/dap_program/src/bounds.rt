@@ -7,7 +7,7 @@ ghost use Rattle.dap_program.specs.Bounds.{opens, is_bounded};
 use dap_editor::request::{EditorCommand, RequestContent, SignedOffset};
 use dap_talk::command::DapCommand;
 
-/// The most lines or labels of a request.
+/// The most breakpoints of a request.
 const MOST_POINTS: usize = 256;
 
 /// The most instructions of a disassembly.
@@ -70,6 +70,8 @@ pub fn is_bounded(asked: &RequestContent) -> bool
         RequestContent::Editor(EditorCommand::SetBreakpoints { lines, .. }) => lines.len()
             <= MOST_POINTS,
         RequestContent::Editor(EditorCommand::SetFunctionBreakpoints(functions)) => functions.len()
+            <= MOST_POINTS,
+        RequestContent::Editor(EditorCommand::SetDataBreakpoints(breakpoints)) => breakpoints.len()
             <= MOST_POINTS,
         RequestContent::Editor(
             EditorCommand::Disassemble {

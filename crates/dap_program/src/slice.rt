@@ -11,7 +11,7 @@ ghost use Rattle.dap_program.specs.Messages.{as_messages};
 ghost use Rattle.dap_program.specs.Slices as slices;
 ghost use Rattle.dap_program.specs.Slices.{console_events, line_question, line_events, run_end_events};
 ghost use Rattle.dap_program.specs.Slices.{undefined_line, exception_events, policy_events};
-ghost use Rattle.dap_program.specs.Slices.{outcome_events, run_events, MakesSliceIn, is_vain_read};
+ghost use Rattle.dap_program.specs.Slices.{stop_of, outcome_events, run_events, MakesSliceIn, is_vain_read};
 ghost use Rattle.dap_program.specs.Slices.{polls_in_vain, asks_line};
 ghost use Rattle.dap_program.specs.Kits.{IsSliceKit, HasRoomBehind};
 ghost use Rattle.dap_slice.specs.SliceEnds.{slice_end_within};
@@ -27,9 +27,10 @@ use dap_slice::conditions::ConditionalBreakpoints;
 use dap_slice::slice::SliceResult;
 use i80_devs::console::{is_line_requested, print_all};
 use i80_exec::ports::PortOperation;
-use lab_core::answer::{End, SliceOutcome};
+use lab_core::answer::{End, SliceOutcome, Stop};
 use lab_core::lab::Lab;
 use lab_core::run_slice::STEPS;
+use lab_shown::place::PlaceChange;
 use std::alloc::{AllocError, Global};
 
 /// The messages about a slice, how many steps it made, whether the program asked for a line, and how the
@@ -230,40 +231,52 @@ fn push_run_end(messages: &mut Messages, text: Vec<u8>, policy: EndPolicy, end: 
     push_policy(messages, policy, end);
 }
 
+fn stop_of(change: Option<PlaceChange>, stop: Stop) -> EditorStop
+    ensures { result ≡ stop_of change stop }
+{
+    match change {
+        None => EditorStop::Board(reason_of(stop)),
+        Some(change) => EditorStop::Data(change),
+    }
+}
+
 fn push_outcome(
     messages: &mut Messages,
     text: Vec<u8>,
     held: ExceptionFilters,
+    change: Option<PlaceChange>,
     outcome: SliceOutcome,
 )
     requires few { length messages.old + 3 ≤ 8 }
     requires begun { text.items ≡ codes "UndefinedOpcode: " }
     requires room { 28 ≤ vec_capacity text }
-    ensures { messages.new ≡ messages.old ++ as_messages (outcome_events held outcome) }
+    ensures { messages.new ≡ messages.old ++ as_messages (outcome_events held change outcome) }
 {
     match outcome {
         SliceOutcome::More | SliceOutcome::Waiting => drop(text),
         SliceOutcome::Stop(stop) => {
             drop(text);
-            let reason = EditorStop::Board(reason_of(stop));
-            messages.push_event(EditorEvent::Stopped(reason));
+            messages.push_event(EditorEvent::Stopped(stop_of(change, stop)));
         }
         SliceOutcome::End(end) => push_run_end(messages, text, policy_at(held, end), end),
     }
 }
 
 impl SliceKit {
-    // The messages about a slice with these port operations and this outcome, which may ask for a line.
+    // The messages about a slice with these port operations, this change and this outcome, which may ask
+    // for a line.
     fn tell(
         self,
         held: ExceptionFilters,
         asks: bool,
         traffic: &[PortOperation],
+        change: Option<PlaceChange>,
         outcome: SliceOutcome,
     ) -> Sequence<Message>
         requires kit { IsSliceKit self }
         requires few { length traffic.now ≤ 4096 }
-        ensures told { result ≡ as_messages (run_events held asks traffic.now outcome) }
+        ensures told { result
+            ≡ as_messages (run_events asks traffic.now (outcome_events held change outcome)) }
         ensures few { length result ≤ 8 }
     {
         let SliceKit {
@@ -275,7 +288,7 @@ impl SliceKit {
         let console = print_all(console, traffic);
         push_console(&mut messages, console);
         push_line(&mut messages, question, asks);
-        push_outcome(&mut messages, opcode, held, outcome);
+        push_outcome(&mut messages, opcode, held, change, outcome);
         messages.into_sequence()
     }
 }
@@ -321,10 +334,11 @@ pub fn make_slice(
                 executed,
                 traffic,
                 outcome,
+                change,
             },
         ) => {
             let asks_line = asks_line(has_asked, executed, traffic.as_slice());
-            let messages = kit.tell(held, asks_line, traffic.as_slice(), outcome);
+            let messages = kit.tell(held, asks_line, traffic.as_slice(), change, outcome);
             hold_at_end(lab, held, outcome);
             Ok(Slice {
                 messages: told_after(logs, executed, messages),

@@ -100,6 +100,7 @@ left_editing (editor.ReadMemory address offset count) found s is = refl
 left_editing (editor.Disassemble address offset instruction_offset count) found s is = refl
 left_editing editor.LoadedSources found s is = refl
 left_editing (editor.GotoTargets path line) found s is = refl
+left_editing (editor.DataBreakpointInfo query) found s is = refl
 left_editing (editor.BreakpointLocations path first last) found s is = refl
 left_editing other found s is = absurd cc
 
@@ -134,6 +135,7 @@ editing_ends_none (editor.ReadMemory address offset count) is = refl
 editing_ends_none (editor.Disassemble address offset instruction_offset count) is = refl
 editing_ends_none editor.LoadedSources is = refl
 editing_ends_none (editor.GotoTargets path line) is = refl
+editing_ends_none (editor.DataBreakpointInfo query) is = refl
 editing_ends_none (editor.BreakpointLocations path first last) is = refl
 editing_ends_none other is = absurd cc
 

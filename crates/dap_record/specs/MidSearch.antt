@@ -30,6 +30,7 @@ mid_search_editing (editor.ReadMemory address offset count) = mid.Look
 mid_search_editing (editor.Disassemble address offset instruction_offset count) = mid.Look
 mid_search_editing editor.LoadedSources = mid.Look
 mid_search_editing (editor.GotoTargets path line) = mid.Look
+mid_search_editing (editor.DataBreakpointInfo query) = mid.Look
 mid_search_editing (editor.BreakpointLocations path first last) = mid.Look
 mid_search_editing editor.Terminate = mid.End
 mid_search_editing other = mid.Other

@@ -47,6 +47,7 @@ fn mid_search_editing(command: &EditorCommand) -> MidSearch
         | EditorCommand::Disassemble { .. }
         | EditorCommand::LoadedSources
         | EditorCommand::GotoTargets { .. }
+        | EditorCommand::DataBreakpointInfo(_)
         | EditorCommand::BreakpointLocations { .. } => MidSearch::Look,
         EditorCommand::Terminate => MidSearch::End,
         _ => MidSearch::Other,

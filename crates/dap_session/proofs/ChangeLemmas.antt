@@ -408,6 +408,7 @@ quiet_asking (asked.Editor (editor.ReadMemory address offset count)) found s is 
 quiet_asking (asked.Editor (editor.Disassemble address offset instruction_offset count)) found s is = refl
 quiet_asking (asked.Editor editor.LoadedSources) found s is = refl
 quiet_asking (asked.Editor (editor.GotoTargets path line)) found s is = refl
+quiet_asking (asked.Editor (editor.DataBreakpointInfo query)) found s is = refl
 quiet_asking (asked.Editor (editor.BreakpointLocations path first last)) found s is = refl
 quiet_asking other found s is = absurd is
 

@@ -337,6 +337,8 @@ edit_made (editor.SetBreakpoints path lines) s =
     (λ l. kept_where (program_at path s.settings.program) _ _ _ s.board) (λ l. same s.board)
 edit_made (editor.SetFunctionBreakpoints functions) s =
     λ l. kept_labels s.settings.program functions s.settings.points s.board
+edit_made (editor.DataBreakpointInfo query) s = λ l. same s.board
+edit_made (editor.SetDataBreakpoints breakpoints) s = λ l. same s.board
 edit_made (editor.BreakpointLocations path first last) s = λ l. same s.board
 edit_made editor.ExceptionInfo s = explained_made (exception_of s.settings.program) s
 edit_made (editor.Evaluate expression c) s = evaluated_made expression c s

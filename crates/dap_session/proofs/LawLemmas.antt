@@ -10,6 +10,7 @@ use Rattle.base_text.specs.Bytes.{Bytes, Text}
 use Rattle.asm_syntax.specs.declared.fault.AsmFault.TheVariants as asm
 use Rattle.lab_core.specs.declared.answer.End.{End}
 use Rattle.lab_core.specs.declared.answer.End.TheVariants as end
+use Rattle.lab_shown.specs.declared.place.PlaceChange.{PlaceChange}
 use Rattle.lab_core.specs.declared.answer.SliceOutcome.{SliceOutcome}
 use Rattle.lab_core.specs.declared.answer.SliceOutcome.TheVariants as outcome
 use Rattle.lab_core.specs.declared.fault.EventFault.{EventFault}
@@ -40,6 +41,7 @@ use Rattle.dap_session.specs.Slices.{slice_end_in}
 use Rattle.i80_devs.specs.Console.{written_to_console}
 use Rattle.dap_slice.specs.declared.logs.LogLine.{LogLine}
 use Rattle.dap_slice.specs.Logs.{logs_before}
+use Rattle.dap_slice.specs.SliceEnds.{change_after}
 use Rattle.dap_program.specs.Slices.{events_to, log_events, console_events, line_events, outcome_events}
 use Rattle.dap_program.specs.Slices.{run_end_events, asks_line}
 use Rattle.dap_program.proofs.SliceLemmas.{told-append}
@@ -211,18 +213,18 @@ silent_end Exit (end.Undefined opcode pc) = refl
 silent_end Hold end.Halted = refl
 silent_end Hold (end.Undefined opcode pc) = refl
 
-silent_outcome : (p : ExceptionFilters) (o : SliceOutcome) → IsSilent (outcome_events p o)
-silent_outcome p outcome.More = refl
-silent_outcome p outcome.Waiting = refl
-silent_outcome p (outcome.Stop reason) = refl
-silent_outcome p (outcome.End e) = silent_end (policy_at p e) e
+silent_outcome : (p : ExceptionFilters) (c : Option PlaceChange) (o : SliceOutcome)
+    → IsSilent (outcome_events p c o)
+silent_outcome p c outcome.More = refl
+silent_outcome p c outcome.Waiting = refl
+silent_outcome p c (outcome.Stop reason) = refl
+silent_outcome p c (outcome.End e) = silent_end (policy_at p e) e
 
-shown_run : (bytes : Bytes) (asks : Bool) (p : ExceptionFilters) (o : SliceOutcome)
-    → shown (console_events bytes ++ (line_events asks ++ outcome_events p o)) ≡ bytes
-shown_run bytes asks p o =
-    let rest = line_events asks ++ outcome_events p o in
-    let silent : IsSilent rest =
-    silent-append (line_events asks) (outcome_events p o) (silent_line asks) (silent_outcome p o) in
+shown_run : (bytes : Bytes) (asks : Bool) (es : List EditorEvent) → IsSilent es
+    → shown (console_events bytes ++ (line_events asks ++ es)) ≡ bytes
+shown_run bytes asks es are =
+    let rest = line_events asks ++ es in
+    let silent : IsSilent rest = silent-append (line_events asks) es (silent_line asks) are in
     shown-append (console_events bytes) rest
     ∙ (ap (λ xs. xs ++ shown rest) (shown_console bytes) ∙ (ap (λ xs. bytes ++ xs) silent ∙ append-nil bytes))
 
@@ -230,19 +232,22 @@ silent_logs : (ls : List LogLine) → IsSilent (log_events ls)
 silent_logs [] = refl
 silent_logs (l ∷ ls) = silent_logs ls
 
-shown_events : (ls : List LogLine) (bytes : Bytes) (asks : Bool) (p : ExceptionFilters) (o : SliceOutcome)
-    → shown (log_events ls ++ (console_events bytes ++ (line_events asks ++ outcome_events p o))) ≡ bytes
-shown_events ls bytes asks p o =
-    let run = console_events bytes ++ (line_events asks ++ outcome_events p o) in
+shown_events : (ls : List LogLine) (bytes : Bytes) (asks : Bool) (es : List EditorEvent) → IsSilent es
+    → shown (log_events ls ++ (console_events bytes ++ (line_events asks ++ es))) ≡ bytes
+shown_events ls bytes asks es are =
+    let run = console_events bytes ++ (line_events asks ++ es) in
     shown-append (log_events ls) run
-    ∙ (ap (λ xs. xs ++ shown run) (silent_logs ls) ∙ shown_run bytes asks p o)
+    ∙ (ap (λ xs. xs ++ shown run) (silent_logs ls) ∙ shown_run bytes asks es are)
 
 pub shown_slicing : (p : ℕ × SliceOutcome) (s : SessionState)
     → console_of (slicing p s).messages ≡ written_in p s.board
 shown_slicing (k, ending) s =
-    shown_events (logs_before s.settings.conditional k s.board)
-    (filter_map written_to_console (traffic_of k s.board)) _
-    (held_ends s.settings.filters s.settings.program) ending
+    let held = held_ends s.settings.filters s.settings.program in
+    let change = change_after s.settings.conditional (k, ending) s.board in
+    let traffic = traffic_of k s.board in
+    shown_events (logs_before s.settings.conditional k s.board) (filter_map written_to_console traffic)
+    (asks_line s.settings.has_asked k traffic) (outcome_events held change ending)
+    (silent_outcome held change ending)
 
 shown_sliced : (s : SessionState) → console_of (slice_told s).messages ≡ written_by slice s
 unfolding slice_told

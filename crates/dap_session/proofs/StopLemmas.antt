@@ -11,6 +11,7 @@ use Rattle.lab_views.specs.declared.view.View.TheVariants as view
 use Rattle.lab_core.specs.declared.answer.Answer.TheVariants as answer
 use Rattle.lab_core.specs.declared.answer.End.{End}
 use Rattle.lab_core.specs.declared.answer.End.TheVariants as end
+use Rattle.lab_shown.specs.declared.place.PlaceChange.{PlaceChange}
 use Rattle.lab_core.specs.declared.answer.SliceOutcome.{SliceOutcome}
 use Rattle.lab_core.specs.declared.answer.SliceOutcome.TheVariants as outcome
 use Rattle.lab_core.specs.declared.event.Event.TheVariants as event
@@ -35,6 +36,7 @@ use Rattle.dap_program.specs.Messages.{as_messages}
 use Rattle.dap_program.specs.Slices.{log_events, console_events, line_events, outcome_events, run_end_events}
 use Rattle.dap_slice.specs.declared.logs.LogLine.{LogLine}
 use Rattle.dap_slice.specs.Logs.{logs_before}
+use Rattle.dap_slice.specs.SliceEnds.{change_after}
 use Rattle.dap_program.specs.Slices.{asks_line}
 use Rattle.dap_messages.specs.declared.message.UndefinedOpcode.{UndefinedOpcode}
 use Rattle.dap_editor.specs.declared.request.Launch.{Launch as LaunchOf}
@@ -53,6 +55,7 @@ use Rattle.lab_shown.specs.declared.step.StepKind.{StepKind}
 use Rattle.lab_shown.specs.declared.step.Granularity.{Granularity}
 use Rattle.dap_session.specs.States.{SessionState, no_events, session_before_requests, with_board}
 use Rattle.dap_session.specs.States.{is_running, wants_slice, with_filters}
+use Rattle.dap_session.specs.Breakpoints.{setting_data}
 use Rattle.dap_session.specs.Requests.{resuming_from, explaining, set_initialized, commanding, editing}
 use Rattle.dap_session.specs.Requests.{objection, asking}
 use Rattle.dap_session.specs.Requests.{asking_unless, turn}
@@ -142,6 +145,8 @@ goes_editing (editor.Initialize supported) s reached =
 goes_editing editor.Terminate s reached = goes_terminating s reached
 goes_editing (editor.SetBreakpoints path lines) s reached = goes_lines path lines s reached
 goes_editing (editor.SetFunctionBreakpoints functions) s reached = goes_functions functions s reached
+goes_editing (editor.SetDataBreakpoints breakpoints) s reached =
+    still s (setting_data breakpoints s).state reached refl
 goes_editing (editor.SetExceptionBreakpoints filters) s reached =
     still s (with_filters filters s) reached refl
 goes_editing (editor.WriteMemory address offset bytes) s reached = goes_writing address offset bytes s reached
@@ -304,18 +309,18 @@ left o b s = record {
   settings = settings_after o s.settings;
 }
 
-follows_outcome : (o : SliceOutcome) (b : Board) (s : SessionState) → SameRun s.board b → IsReached (seen s)
-    → has_run s.board.run ≡ true
-    → Follows (seen s) (as_messages (outcome_events (held_in s) o)) (seen (left o b s))
-follows_outcome outcome.More b s kept reached has =
+follows_outcome : (c : Option PlaceChange) (o : SliceOutcome) (b : Board) (s : SessionState)
+    → SameRun s.board b → IsReached (seen s) → has_run s.board.run ≡ true
+    → Follows (seen s) (as_messages (outcome_events (held_in s) c o)) (seen (left o b s))
+follows_outcome c outcome.More b s kept reached has =
     (still s (with_board b s) reached (seen_board b s kept)).follows
-follows_outcome outcome.Waiting b s kept reached has =
+follows_outcome c outcome.Waiting b s kept reached has =
     (still s (with_board b s) reached (seen_board b s kept)).follows
-follows_outcome (outcome.Stop r) b s kept reached has =
-    let es = as_messages (outcome_events (held_in s) (outcome.Stop r)) in
+follows_outcome c (outcome.Stop r) b s kept reached has =
+    let es = as_messages (outcome_events (held_in s) c (outcome.Stop r)) in
     subst (λ a. Follows (seen s) es (record (with_run Stopped (seen s)) { is_attached = a }))
     (sym kept.is_attached) (runs_on Stopped (seen s) es reached has refl refl refl)
-follows_outcome (outcome.End e) b s kept reached has =
+follows_outcome c (outcome.End e) b s kept reached has =
     follows_end s.settings.filters s.settings.program e b s refl kept reached has
 
 pub follows_slicing : (p : ℕ × SliceOutcome) (s : SessionState) → IsReached (seen s) → has_run
@@ -325,14 +330,15 @@ follows_slicing (k, ending) s reached has =
     let written = filter_map written_to_console (traffic_of k s.board) in
     let asks = asks_line s.settings.has_asked k (traffic_of k s.board) in
     let noted : SessionState = record s { settings = with_question asks s.settings } in
-    let last = outcome_events (held_in s) ending in
+    let change = change_after s.settings.conditional (k, ending) s.board in
+    let last = outcome_events (held_in s) change ending in
     let logs = logs_before s.settings.conditional k s.board in
     calm_follows (log_events logs) (console_events written ++ (line_events asks ++ last)) _ _
     (calm_logs logs)
     (calm_follows (console_events written) (line_events asks ++ last) _ _
     (calm_console written)
     (calm_follows (line_events asks) last _ _ (calm_line asks)
-    (follows_outcome ending (after_steps k s.board) noted (kept_steps k s.board) reached has)))
+    (follows_outcome change ending (after_steps k s.board) noted (kept_steps k s.board) reached has)))
 
 pub running_has : (r : RunState) → is_running r ≡ true → has_run r ≡ true
 running_has NoRun is = absurd (true≢false (sym is))

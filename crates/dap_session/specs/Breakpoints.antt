@@ -1,19 +1,23 @@
--- Breakpoints (Debug Adapter Protocol, `setBreakpoints`, `setFunctionBreakpoints` and `breakpointLocations`).
-use Rattle.std.specs.Prelude.{ℕ, List, [], take, Option, Some, None, codes, if◌then◌else◌}
+-- Breakpoints (Debug Adapter Protocol, `setBreakpoints`, `setFunctionBreakpoints`, `setDataBreakpoints`,
+-- `dataBreakpointInfo` and `breakpointLocations`).
+use Rattle.std.specs.Prelude.{ℕ, List, [], ◌++◌, take, Option, Some, None, codes, if◌then◌else◌}
 use Rattle.std.specs.Str.{bytes_eq}
 use Rattle.base_text.specs.Bytes.{Text}
 use Rattle.lab_core.specs.Board.{Board}
-use Rattle.dap_messages.specs.declared.message.EditorBody.TheVariants.{Breakpoints, Locations}
+use Rattle.dap_messages.specs.declared.message.EditorBody.TheVariants.{Breakpoints, DataInfo, Locations}
 use Rattle.dap_editor.specs.declared.request.LineBreakpoint.{LineBreakpoint}
 use Rattle.dap_editor.specs.declared.request.FunctionBreakpoint.{FunctionBreakpoint}
+use Rattle.dap_editor.specs.declared.request.DataBreakpoint.{DataBreakpoint}
+use Rattle.dap_editor.specs.declared.request.DataQuery.{DataQuery}
 use Rattle.dap_points.specs.declared.points.SourceLines.{SourceLines}
 use Rattle.dap_points.specs.Points.{WantedBreakpointsState, number_of, has_place, lines_at, with_lines}
 use Rattle.dap_slice.specs.declared.conditions.ConditionalBreakpoint.{ConditionalBreakpoint}
 use Rattle.dap_program.specs.declared.messages.FollowUp.TheVariants.{Nothing}
 use Rattle.dap_lines.specs.CodeLines.{locations}
+use Rattle.dap_data.specs.Info.{data_info}
 use Rattle.dap_launch.specs.declared.program.Program.{Program}
-use Rattle.dap_launch.specs.Programs.{armed_with, conditional_with}
-use Rattle.dap_launch.specs.Points.{points_where, labels_where}
+use Rattle.dap_launch.specs.Programs.{armed_with, conditional_with, watches_in}
+use Rattle.dap_launch.specs.Points.{points_where, labels_where, data_where}
 use Rattle.dap_session.specs.States.{SessionState, with_board, with_points, with_conditional}
 use Rattle.dap_session.specs.Turns.{Replied, refusing, succeeding}
 
@@ -36,13 +40,14 @@ lines_armed l s =
     (take 256 l.lines) (take 256 kept.functions) s.board)
     s
 
--- those of the program that have options; if it isn't this source they stay what they were
+-- those of the program that have options, and what is watched; if it isn't this source they stay what they
+-- were
 abbrev pub conditional_where : Option Program → SourceLines → SessionState → List ConditionalBreakpoint
 conditional_where None l s = s.settings.conditional
 conditional_where (Some program) l s =
     let kept = s.settings.points in
     conditional_with program (number_of l.path kept.lists) (take 256 l.lines) (take 256 kept.functions)
-    s.board
+    s.board ++ watches_in program (take 256 kept.on_data) s.board
 
 abbrev pub lines_conditional : SourceLines → SessionState → List ConditionalBreakpoint
 lines_conditional l s = conditional_where (program_at l.path s.settings.program) l s
@@ -74,6 +79,7 @@ labels_conditional (Some program) functions s =
     let path = program.launch.program in
     let kept = s.settings.points in
     conditional_with program (number_of path kept.lists) (lines_at path kept.lists) functions s.board
+    ++ watches_in program (take 256 kept.on_data) s.board
 
 abbrev pub setting_functions : List FunctionBreakpoint → SessionState → Replied
 setting_functions functions s =
@@ -83,6 +89,28 @@ setting_functions functions s =
     (with_board (labels_armed program functions p s.board)
     (with_points (record p { functions = functions })
     (with_conditional (labels_conditional program functions s) s)))
+
+-- ---- data
+
+abbrev pub data_conditional : Option Program → List DataBreakpoint → SessionState
+    → List ConditionalBreakpoint
+data_conditional None on_data s = s.settings.conditional
+data_conditional (Some program) on_data s =
+    let path = program.launch.program in
+    let kept = s.settings.points in
+    conditional_with program (number_of path kept.lists) (lines_at path kept.lists)
+    (take 256 kept.functions) s.board ++ watches_in program on_data s.board
+
+abbrev pub setting_data : List DataBreakpoint → SessionState → Replied
+setting_data on_data s =
+    let program = s.settings.program in
+    succeeding (Breakpoints (data_where program on_data s.board)) Nothing
+    (with_points (record s.settings.points { on_data = on_data })
+    (with_conditional (data_conditional program on_data s) s))
+
+-- what a data breakpoint would watch
+abbrev pub describing_data : DataQuery → SessionState → Replied
+describing_data query s = succeeding (DataInfo (data_info s.board query)) Nothing s
 
 -- ---- locations
 

@@ -224,5 +224,6 @@ IsLook (asked.Editor (editor.ReadMemory address offset count)) = Unit {0}
 IsLook (asked.Editor (editor.Disassemble address offset instruction_offset count)) = Unit {0}
 IsLook (asked.Editor editor.LoadedSources) = Unit {0}
 IsLook (asked.Editor (editor.GotoTargets path line)) = Unit {0}
+IsLook (asked.Editor (editor.DataBreakpointInfo query)) = Unit {0}
 IsLook (asked.Editor (editor.BreakpointLocations path first last)) = Unit {0}
 IsLook other = ⊥

@@ -31,7 +31,8 @@ use Rattle.dap_inputs.specs.Inputs.{ends_question}
 use Rattle.dap_session.specs.States.{SessionState, no_events, with_board, with_filters, after_answer}
 use Rattle.dap_session.specs.States.{program_over}
 use Rattle.dap_session.specs.Turns.{Turn, Replied, turn_of, change_follow, refusing, succeeding, accepting}
-use Rattle.dap_session.specs.Breakpoints.{setting_lines, setting_functions, locating}
+use Rattle.dap_session.specs.Breakpoints.{setting_lines, setting_functions, setting_data, describing_data}
+use Rattle.dap_session.specs.Breakpoints.{locating}
 use Rattle.dap_session.specs.Evaluations.{evaluating}
 use Rattle.dap_session.specs.Memory.{memory_at, writing, first_line, code_at}
 use Rattle.dap_session.specs.Targets.{finding_target, going_to}
@@ -157,6 +158,8 @@ editing_memory other s = refusing (codes "unknown command") s
 abbrev pub editing_points : EditorCommand → SessionState → Replied
 editing_points (editor.SetBreakpoints path lines) s = setting_lines path lines s
 editing_points (editor.SetFunctionBreakpoints functions) s = setting_functions functions s
+editing_points (editor.DataBreakpointInfo query) s = describing_data query s
+editing_points (editor.SetDataBreakpoints breakpoints) s = setting_data breakpoints s
 editing_points (editor.BreakpointLocations path first last) s = locating path first last s
 editing_points other s = editing_memory other s
 

@@ -14,6 +14,7 @@ mod evaluations;
 mod history;
 mod launches;
 mod memory;
+mod on_data;
 mod requests;
 mod slices;
 mod targets;

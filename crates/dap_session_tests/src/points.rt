@@ -9,7 +9,8 @@ initialize
   0 "initialize" true {"exceptionBreakpointFilters":[{"default":true,"filter":"undefined",
     "label":"Undefined opcodes"},{"default":false,"filter":"halt","label":"HLT"}],
     "supportsBreakpointLocationsRequest":true,"supportsConditionalBreakpoints":true,
-    "supportsConfigurationDoneRequest":true,"supportsDisassembleRequest":true,
+    "supportsConfigurationDoneRequest":true,"supportsDataBreakpointBytes":true,
+    "supportsDataBreakpoints":true,"supportsDisassembleRequest":true,
     "supportsEvaluateForHovers":true,"supportsExceptionInfoRequest":true,
     "supportsFunctionBreakpoints":true,"supportsGotoTargetsRequest":true,
     "supportsLoadedSourcesRequest":true,"supportsLogPoints":true,"supportsReadMemoryRequest":true,
@@ -64,7 +65,8 @@ initialize
   0 "initialize" true {"exceptionBreakpointFilters":[{"default":true,"filter":"undefined",
     "label":"Undefined opcodes"},{"default":false,"filter":"halt","label":"HLT"}],
     "supportsBreakpointLocationsRequest":true,"supportsConditionalBreakpoints":true,
-    "supportsConfigurationDoneRequest":true,"supportsDisassembleRequest":true,
+    "supportsConfigurationDoneRequest":true,"supportsDataBreakpointBytes":true,
+    "supportsDataBreakpoints":true,"supportsDisassembleRequest":true,
     "supportsEvaluateForHovers":true,"supportsExceptionInfoRequest":true,
     "supportsFunctionBreakpoints":true,"supportsGotoTargetsRequest":true,
     "supportsLoadedSourcesRequest":true,"supportsLogPoints":true,"supportsReadMemoryRequest":true,
@@ -141,7 +143,8 @@ initialize
   0 "initialize" true {"exceptionBreakpointFilters":[{"default":true,"filter":"undefined",
     "label":"Undefined opcodes"},{"default":false,"filter":"halt","label":"HLT"}],
     "supportsBreakpointLocationsRequest":true,"supportsConditionalBreakpoints":true,
-    "supportsConfigurationDoneRequest":true,"supportsDisassembleRequest":true,
+    "supportsConfigurationDoneRequest":true,"supportsDataBreakpointBytes":true,
+    "supportsDataBreakpoints":true,"supportsDisassembleRequest":true,
     "supportsEvaluateForHovers":true,"supportsExceptionInfoRequest":true,
     "supportsFunctionBreakpoints":true,"supportsGotoTargetsRequest":true,
     "supportsLoadedSourcesRequest":true,"supportsLogPoints":true,"supportsReadMemoryRequest":true,
@@ -224,6 +227,98 @@ slice
   "stopped" {"allThreadsStopped":true,"reason":"breakpoint","threadId":1}
 "#;
 
+/// Breakpoints on data: before a launch, those that can't be, a stack that changes, a condition, and a `next`
+/// whose end is a change.
+const DATA: &str = r#"
+initialize
+  0 "initialize" true {"exceptionBreakpointFilters":[{"default":true,"filter":"undefined",
+    "label":"Undefined opcodes"},{"default":false,"filter":"halt","label":"HLT"}],
+    "supportsBreakpointLocationsRequest":true,"supportsConditionalBreakpoints":true,
+    "supportsConfigurationDoneRequest":true,"supportsDataBreakpointBytes":true,
+    "supportsDataBreakpoints":true,"supportsDisassembleRequest":true,
+    "supportsEvaluateForHovers":true,"supportsExceptionInfoRequest":true,
+    "supportsFunctionBreakpoints":true,"supportsGotoTargetsRequest":true,
+    "supportsLoadedSourcesRequest":true,"supportsLogPoints":true,"supportsReadMemoryRequest":true,
+    "supportsRestartRequest":true,"supportsSetVariable":true,"supportsStepBack":true,
+    "supportsSteppingGranularity":true,"supportsTerminateRequest":true,"supportsWriteMemoryRequest":true}
+setDataBreakpoints {"breakpoints":[{"dataId":"B"}]}
+  1 "setDataBreakpoints" true {"breakpoints":[
+    {"id":262401,"message":"nothing is launched yet","verified":false}]}
+launch {"program":"count.asm","stopOnEntry":true} < counts
+  2 "launch" true {}
+  "initialized"
+  "breakpoint" {"breakpoint":{"id":262401,"verified":true},"reason":"changed"}
+configurationDone
+  3 "configurationDone" true {}
+  "stopped" {"allThreadsStopped":true,"reason":"entry","threadId":1}
+dataBreakpointInfo {"name":"B"}
+  4 "dataBreakpointInfo" true {"accessTypes":["write"],"canPersist":true,"dataId":"B",
+    "description":"register B"}
+dataBreakpointInfo {"name":"SAY+1","bytes":2}
+  5 "dataBreakpointInfo" true {"accessTypes":["write"],"canPersist":true,"dataId":"010E:2",
+    "description":"2 bytes at 010E"}
+dataBreakpointInfo {"name":"PC"}
+  6 "dataBreakpointInfo" true {"dataId":null,"description":"PC changes at every step"}
+dataBreakpointInfo {"name":"SP","variablesReference":1}
+  7 "dataBreakpointInfo" true {"accessTypes":["write"],"canPersist":true,"dataId":"SP",
+    "description":"register SP"}
+dataBreakpointInfo {"name":"Z","variablesReference":2}
+  8 "dataBreakpointInfo" true {"dataId":null,
+    "description":"only registers and memory can be watched"}
+dataBreakpointInfo {"name":"NOTHING"}
+  9 "dataBreakpointInfo" true {"dataId":null,"description":"NOTHING: Undefined"}
+setDataBreakpoints {"breakpoints":[{"dataId":"B","condition":"B LT 3"},{"dataId":"01FE:2"},
+    {"dataId":"PC"},{"dataId":"A","accessType":"read"},{"dataId":"A","hitCondition":"2"},
+    {"dataId":"A","condition":"A EQ EQ"}]}
+  10 "setDataBreakpoints" true {"breakpoints":[
+    {"id":262401,"verified":true},
+    {"id":262402,"verified":true},
+    {"id":262403,"message":"no register or bytes: PC","verified":false},
+    {"id":262404,"message":"only writes are watched","verified":false},
+    {"id":262405,"message":"hit counts are not supported","verified":false},
+    {"id":262406,"message":"condition, column 6: Name","verified":false}]}
+continue {"threadId":1}
+  11 "continue" true {"allThreadsContinued":true}
+  "continued" {"allThreadsContinued":true,"threadId":1}
+slice
+slice
+  "stopped" {"allThreadsStopped":true,"description":"01FE: 08H, was 00H, by 0105",
+    "reason":"data breakpoint","threadId":1}
+continue {"threadId":1}
+  14 "continue" true {"allThreadsContinued":true}
+  "continued" {"allThreadsContinued":true,"threadId":1}
+slice
+  "output" {"category":"stdout","output":"."}
+  "stopped" {"allThreadsStopped":true,"description":"B: 02H, was 03H, by 0108",
+    "reason":"data breakpoint","threadId":1}
+next {"threadId":1}
+  16 "next" true {}
+  "continued" {"allThreadsContinued":true,"threadId":1}
+slice
+  "stopped" {"allThreadsStopped":true,"reason":"step","threadId":1}
+next {"threadId":1}
+  18 "next" true {}
+  "continued" {"allThreadsContinued":true,"threadId":1}
+slice
+  "output" {"category":"stdout","output":"."}
+  "stopped" {"allThreadsStopped":true,"reason":"step","threadId":1}
+next {"threadId":1}
+  20 "next" true {}
+  "continued" {"allThreadsContinued":true,"threadId":1}
+slice
+  "stopped" {"allThreadsStopped":true,"description":"B: 01H, was 02H, by 0108",
+    "reason":"data breakpoint","threadId":1}
+setDataBreakpoints {"breakpoints":[]}
+  22 "setDataBreakpoints" true {"breakpoints":[]}
+continue {"threadId":1}
+  23 "continue" true {"allThreadsContinued":true}
+  "continued" {"allThreadsContinued":true,"threadId":1}
+slice
+  "output" {"category":"stdout","output":"."}
+  "exited" {"exitCode":0}
+  "terminated"
+"#;
+
 #[test]
 fn breakpoints_are_placed(rt: HostRuntime) -> Result<(), Fail> {
     assert_eq!(rt; first_other(rt.alloc(), POINTS)?, None);
@@ -239,5 +334,11 @@ fn conditions_are_asked(rt: HostRuntime) -> Result<(), Fail> {
 #[test]
 fn log_messages_are_told(rt: HostRuntime) -> Result<(), Fail> {
     assert_eq!(rt; first_other(rt.alloc(), LOGS)?, None);
+    Ok(())
+}
+
+#[test]
+fn changes_stop_the_run(rt: HostRuntime) -> Result<(), Fail> {
+    assert_eq!(rt; first_other(rt.alloc(), DATA)?, None);
     Ok(())
 }

@@ -1,2 +1,4 @@
+pub mod ChangeLemmas
 pub mod LogLemmas
 pub mod SliceLemmas
+pub mod ValueLemmas

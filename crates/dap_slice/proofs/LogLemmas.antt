@@ -1,15 +1,14 @@
 -- What the steps of a slice tell.
 use Rattle.std.proofs.Common.{◌≡◌, ◌∙◌, ◌≤◌, ◌<◌, ◌++◌, ◌∷◌, [], ℕ, zero, suc, List, Bool, true, false, ◌||◌}
-use Rattle.std.proofs.Common.{◌&&◌, ◌==◌, if◌then◌else◌, nat_lt, option_map, Option, None, refl, sym, ap}
+use Rattle.std.proofs.Common.{if◌then◌else◌, nat_lt, refl, sym, ap}
 use Rattle.std.proofs.Common.{arith}
 use Rattle.std.proofs.lemmas.Bool.Decides.{nat_tests}
-use Rattle.std.specs.List.{filter_map, cons_option}
 use Rattle.lab_core.specs.Board.{Board}
 use Rattle.lab_core.specs.Slices.{after_steps}
 use Rattle.dap_slice.specs.declared.conditions.ConditionalBreakpoint.{ConditionalBreakpoint}
 use Rattle.dap_slice.specs.declared.logs.LogLine.{LogLine}
-use Rattle.dap_slice.specs.Conditions.{is_there, is_any_at, holds_on}
-use Rattle.dap_slice.specs.Logs.{line_on, log_on, logs_on, logs_before, logs_of_steps}
+use Rattle.dap_slice.specs.Conditions.{is_there, is_any_at}
+use Rattle.dap_slice.specs.Logs.{logs_on, logs_before, logs_of_steps}
 use Rattle.dap_slice.specs.SliceEnds.{is_at_after, slice_end_within}
 use Rattle.dap_slice.proofs.SliceLemmas.{none_passed}
 
@@ -32,6 +31,10 @@ append-nil (x ∷ xs) = ap (λ rest. x ∷ rest) (append-nil xs)
 positive : (k : ℕ) → nat_lt 0 (suc k) ≡ true
 positive k = grind (arith, nat_tests)
 
+neither : (x y : Bool) → (x || y) ≡ false → x ≡ false
+neither false y is = refl
+neither true y is = absurd cc
+
 -- steps of which only the first may be at a breakpoint
 first-alone : (points : List ConditionalBreakpoint) (b : Board) (k : ℕ)
     → ((j : ℕ) → 1 ≤ j → j < suc k → is_at_after points b j ≡ false)
@@ -39,7 +42,8 @@ first-alone : (points : List ConditionalBreakpoint) (b : Board) (k : ℕ)
 first-alone points b zero none = refl
 first-alone points b (suc k) none =
     let before = first-alone points b k (λ j some below. none j some (omega (arith, below))) in
-    let quiet = none-there points (after_steps (suc k) b) (none (suc k) (omega arith) (omega arith)) in
+    let quiet =
+    none-there points (after_steps (suc k) b) (neither _ _ (none (suc k) (omega arith) (omega arith))) in
     before
     ∙ (sym (append-nil (logs_of_steps points (suc k) b))
     ∙ ap (λ xs. logs_of_steps points (suc k) b ++ xs) (sym quiet))

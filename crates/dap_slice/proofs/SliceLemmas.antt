@@ -1,8 +1,7 @@
 -- Slices that end where they come to a breakpoint.
-use Rattle.std.proofs.Common.{◌≡◌, ◌≢◌, ◌∙◌, ◌≤◌, ◌<◌, ◌+◌, ◌-◌, map, ℕ, zero, suc, List, []}
-use Rattle.std.proofs.Common.{Bool, true, false, ◌&&◌, if◌then◌else◌, Result, Ok, Err}
-use Rattle.std.proofs.Common.{refl, sym, ap, subst, arith, length}
-use Rattle.std.proofs.Math.Bool.{or-false}
+use Rattle.std.proofs.Common.{◌≡◌, ◌≢◌, ◌∙◌, ◌≤◌, ◌<◌, ◌+◌, ◌-◌, ℕ, zero, suc, List, []}
+use Rattle.std.proofs.Common.{Bool, true, false, ◌&&◌, ◌||◌, if◌then◌else◌, Option, Some, None, is_some}
+use Rattle.std.proofs.Common.{Result, Ok, Err, refl, sym, ap, subst, arith, length}
 use Rattle.std.specs.Result.{IfOk, OnErr}
 use Rattle.std.specs.declared.alloc.AllocError.{AllocError}
 use Rattle.i80_exec.specs.declared.ports.PortOperation.{PortOperation}
@@ -21,15 +20,18 @@ use Rattle.lab_core.specs.Slices.{after_steps, traffic_of, left_by}
 use Rattle.lab_core.specs.SliceEnds.{slice_from, sliced_at, traffic_in as answer_traffic}
 use Rattle.lab_core.specs.Events.{Gives, while_running}
 use Rattle.lab_core.specs.Labs.{LabState, RepresentsBoard}
-use Rattle.lab_core.specs.Marks.{MarksState, SlicesTo, first_after, first_mark, marked_at, watch_of}
-use Rattle.lab_core.specs.Marks.{Leaves}
+use Rattle.lab_shown.specs.declared.place.PlaceChange.{PlaceChange}
+use Rattle.lab_core.specs.Marks.{MarksState, SlicesTo, first_after, first_mark, marked_at, Leaves}
 use Rattle.lab_core.proofs.LawLemmas.{applies-given, slice_within}
 use Rattle.lab_core.proofs.MarkLemmas.{first-within, first-before}
 use Rattle.dap_slice.specs.declared.conditions.ConditionalBreakpoint.{ConditionalBreakpoint}
-use Rattle.dap_slice.specs.Conditions.{is_any_met, outcome_at, IsMarked}
-use Rattle.dap_slice.specs.SliceEnds.{is_at_after, first_arrival, stopped_if_met, slice_end_within}
-use Rattle.dap_slice.specs.SliceEnds.{after_end, after_slice_within, IsSliceEnd, IsSliceWithin}
+use Rattle.dap_slice.specs.Conditions.{is_any_met, IsMarked}
+use Rattle.dap_slice.specs.Changes.{change_at, IsAfterStep}
+use Rattle.dap_slice.specs.SliceEnds.{is_at_after, first_arrival, outcome_at, stopped_if_met, change_after}
+use Rattle.dap_slice.specs.SliceEnds.{slice_end_within, after_end, after_slice_within}
+use Rattle.dap_slice.specs.SliceEnds.{IsSliceEnd, IsSliceWithin, IsStepChange, StopsAtChange}
 use Rattle.dap_slice.specs.declared.slice.SliceResult.{SliceResult}
+use Rattle.dap_slice.proofs.ChangeLemmas.{marked_there, marked_still, after_step, first_is, first_of}
 
 abbrev pub Points : Type 0
 Points = List ConditionalBreakpoint
@@ -57,16 +59,11 @@ unfolding first_after
 first-none test none zero k = omega arith
 first-none test none (suc more) k = rw (none (k + 1), first-none test none more (k + 1)) (omega arith)
 
-marked-there : (points : Points) (marks : MarksState) (b : Board) (j : ℕ) → IsMarked points marks
-    → marked_at marks b j ≡ is_at_after points b j
-marked-there points marks b j is =
-    rw (is.watches, is.addresses (after_steps j b).machine.regs.pc) (or-false _)
-
 -- the first mark is at the first breakpoint
 pub arrives : (points : Points) (marks : MarksState) (n : ℕ) (b : Board) → IsMarked points marks
     → first_mark marks n b ≡ first_arrival points n b
 arrives points marks n b is =
-    first-same (marked_at marks b) (is_at_after points b) (λ j. marked-there points marks b j is) n 0
+    first-same (marked_at marks b) (is_at_after points b) (λ j. marked_there points marks b j is) n 0
 
 pub none_arrives : (n : ℕ) (b : Board) → first_arrival [] n b ≡ n
 none_arrives n b = let all = first-none (is_at_after [] b) (λ j. refl) n 0 in omega (arith, all)
@@ -144,48 +141,58 @@ same-count points b k outcome.Waiting = refl
 same-count points b k (outcome.Stop s) = refl
 same-count points b k (outcome.End e) = refl
 
--- a slice that ended at `end` and was then stopped or not
-record IsEnd (points : Points) (n : ℕ) (b : Board) (k : ℕ) (traffic : List PortOperation)
-    (result : SliceOutcome) (new : LabState) (end : ℕ × SliceOutcome) : Type 0 where
-  count : k ≡ end.0
-  traffic_is : traffic ≡ traffic_of end.0 b
-  how : result ≡ end.1
-  represents : RepresentsBoard new (left_by end.1 (after_steps end.0 b))
+pair-is : (p : ℕ × SliceOutcome) → (p.0, p.1) ≡ p
+pair-is (k, ending) = refl
 
-pub whole : (points : Points) (n : ℕ) (b : Board) (k : ℕ) (traffic : List PortOperation)
-    (ending result : SliceOutcome) (mid new : LabState) → IsArrival points n b k traffic ending mid
-    → result ≡ (stopped_if_met points b (k, ending)).1
-    → RepresentsBoard new (left_by result (after_steps k b))
-    → IsSliceWithin points n b (record { executed = k; traffic = traffic; outcome = result })
-    × RepresentsBoard new (after_slice_within points n b)
-whole points n b k traffic ending result mid new came is represents =
-    let count = same-count points b k ending in
+pub whole : (points : Points) (n : ℕ) (b : Board) (s : SliceResult) (ending : SliceOutcome)
+    (mid new : LabState) → IsArrival points n b s.executed s.traffic ending mid
+    → s.outcome ≡ (stopped_if_met points b (s.executed, ending)).1
+    → s.change ≡ change_after points (s.executed, s.outcome) b
+    → RepresentsBoard new (left_by s.outcome (after_steps s.executed b))
+    → IsSliceWithin points n b s × RepresentsBoard new (after_slice_within points n b)
+whole points n b s ending mid new came how told represents =
+    let count = same-count points b s.executed ending in
+    let p = stopped_if_met points b (s.executed, ending) in
+    let C : ℕ → SliceOutcome → Type 0 = λ k o. s.change ≡ change_after points (k, o) b in
+    let seen : C p.0 p.1 = subst (C p.0) how (subst (λ k. C k s.outcome) (sym count) told) in
     let E : ℕ × SliceOutcome → Type 0 =
-    λ end. IsEnd points n b k traffic result new (stopped_if_met points b end) in
-    let end : E (slice_from (first_arrival points n b) 0 b) = subst E (sym came.end_is) (record {
-      count = sym count;
-      traffic_is = rw count came.traffic_is;
-      how = is;
-      represents = rw (count, ← is) represents;
-    }) in (
-      record { executed = end.count; traffic = end.traffic_is; outcome = end.how },
-      end.represents,
+    λ end. IsSliceEnd points (stopped_if_met points b end) b s
+    × RepresentsBoard new (after_end (stopped_if_met points b end) b) in
+    subst E (sym came.end_is) (
+      record {
+        executed = sym count;
+        traffic = rw count came.traffic_is;
+        outcome = how;
+        change = subst (λ end. s.change ≡ change_after points end b) (pair-is p) seen;
+      },
+      rw (count, ← how) represents,
     )
 
 -- ---- laws
 
-not-met : (b : Board) → outcome_at [] b ≡ outcome.More
-not-met b = by b.is_attached
+not-met : (was b : Board) → outcome_at [] was b ≡ outcome.More
+not-met was b = by b.is_attached
   where
-    by : (is : Bool) → (if is && false then outcome.Stop stop.Breakpoint else outcome.More) ≡ outcome.More
+    no_change : Option PlaceChange
+    no_change = None
+
+    by : (is : Bool) → (if is && false || is_some (if is then no_change else None)
+        then outcome.Stop stop.Breakpoint else outcome.More) ≡ outcome.More
     by true = refl
     by false = refl
 
 plain : (b : Board) (end : ℕ × SliceOutcome) → stopped_if_met [] b end ≡ end
-plain b (k, outcome.More) = ap (λ e. (k, e)) (not-met (after_steps k b))
+plain b (k, outcome.More) = ap (λ e. (k, e)) (not-met (after_steps (k - 1) b) (after_steps k b))
 plain b (k, outcome.Waiting) = refl
 plain b (k, outcome.Stop s) = refl
 plain b (k, outcome.End e) = refl
+
+-- without breakpoints no change is told
+pub untold : (end : ℕ × SliceOutcome) (b : Board) → change_after [] end b ≡ None
+untold (k, outcome.More) b = refl
+untold (k, outcome.Waiting) b = refl
+untold (k, outcome.Stop s) b = refl
+untold (k, outcome.End e) b = refl
 
 pub none_plain : (n : ℕ) (b : Board) → slice_end_within [] n b ≡ slice_from n 0 b
 none_plain n b = plain b _ ∙ ap (λ m. slice_from m 0 b) (none_arrives n b)
@@ -201,15 +208,15 @@ within_arrival points n b =
 
 -- a breakpoint that stops nothing leaves an end as it is
 kept_end : (points : Points) (b : Board) (end : ℕ × SliceOutcome)
-    → is_any_met points (after_steps end.0 b) ≡ false → stopped_if_met points b end ≡ end
-kept_end points b (k, outcome.More) none =
-    ap (λ met. (k, if met then outcome.Stop stop.Breakpoint else outcome.More)) none
+    → outcome_at points (after_steps (end.0 - 1) b) (after_steps end.0 b) ≡ outcome.More
+    → stopped_if_met points b end ≡ end
+kept_end points b (k, outcome.More) none = ap (λ e. (k, e)) none
 kept_end points b (k, outcome.Waiting) none = refl
 kept_end points b (k, outcome.Stop s) none = refl
 kept_end points b (k, outcome.End e) none = refl
 
 pub unmet_plain : (points : Points) (n : ℕ) (b : Board)
-    → ((j : ℕ) → j ≤ n → is_any_met points (after_steps j b) ≡ false)
+    → ((j : ℕ) → j ≤ n → outcome_at points (after_steps (j - 1) b) (after_steps j b) ≡ outcome.More)
     → slice_end_within points n b ≡ slice_from (first_arrival points n b) 0 b
 unmet_plain points n b none =
     let k = first_arrival points n b in
@@ -228,6 +235,49 @@ none_passed points n b j some below =
     let within = within_arrival points n b in
     first-before (is_at_after points b) n 0 j (omega (arith, some)) (omega (arith, below, within))
 
+-- no step changes what it leaves as it was
+some-step : (k : ℕ) (b : Board) (c : PlaceChange) → IsStepChange (after_steps (k - 1) b) (after_steps k b) c
+    → 1 ≤ k
+some-step zero b c is = absurd (is.differ (is.before ∙ sym is.after))
+some-step (suc k) b c is = omega arith
+
+stops-at : (points : Points) (was b : Board) (c : PlaceChange) → change_at points was b ≡ Some c
+    → outcome_at points was b ≡ outcome.Stop stop.Breakpoint
+stops-at points was b c is = rw is (by (is_any_met points b))
+  where
+    by : (met : Bool) → (if met || true then outcome.Stop stop.Breakpoint else outcome.More)
+        ≡ outcome.Stop stop.Breakpoint
+    by true = refl
+    by false = refl
+
+change-stops : (points : Points) (b : Board) (end : ℕ × SliceOutcome) (c : PlaceChange)
+    → change_after points end b ≡ Some c → StopsAtChange end b c
+change-stops points b (k, outcome.More) c is = absurd cc
+change-stops points b (k, outcome.Waiting) c is = absurd cc
+change-stops points b (k, outcome.Stop s) c is =
+    let change = first_is points (after_steps (k - 1) b) (after_steps k b) c is in
+    record {
+      some = some-step k b c change;
+      reason = s;
+      outcome = refl;
+      change = change;
+    }
+change-stops points b (k, outcome.End e) c is = absurd cc
+
+pub change_stops : (points : Points) (n : ℕ) (b : Board) (c : PlaceChange)
+    → change_after points (slice_end_within points n b) b ≡ Some c
+    → StopsAtChange (slice_end_within points n b) b c
+change_stops points n b c is = change-stops points b (slice_end_within points n b) c is
+
+pub change_told : (points : Points) (k : ℕ) (b : Board) (c : PlaceChange)
+    → change_at points (after_steps (k - 1) b) (after_steps k b) ≡ Some c
+    → (stopped_if_met points b (k, outcome.More) ≡ (k, outcome.Stop stop.Breakpoint))
+    × (change_after points (k, outcome.Stop stop.Breakpoint) b ≡ Some c)
+change_told points k b c is = (
+  ap (λ o. (k, o)) (stops-at points (after_steps (k - 1) b) (after_steps k b) c is),
+  first_of points (after_steps (k - 1) b) (after_steps k b) c is,
+)
+
 -- ---- the board's own slice
 
 -- its port operations are those of the answer
@@ -242,16 +292,18 @@ few_made reply (Ok s) n most few is =
     omega (arith, within, most)
 
 -- a slice that was made ended there, and so did the board
-abbrev Made : ℕ × SliceOutcome → Board → Result SliceResult AllocError → LabState → Type 0
-Made end b result new = IfOk result (λ s. IsSliceEnd end b s × RepresentsBoard new (after_end end b))
+abbrev Made : Points → ℕ × SliceOutcome → Board → Result SliceResult AllocError → LabState → Type 0
+Made points end b result new =
+    IfOk result (λ s. IsSliceEnd points end b s × RepresentsBoard new (after_end end b))
 
 -- it is the slice without breakpoints
 pub plain_end : (points : Points) (n : ℕ) (b : Board) (result : Result SliceResult AllocError)
-    (new : LabState) → points ≡ [] → Made (slice_from n 0 b) b result new
-    → Made (slice_end_within points n b) b result new
+    (new : LabState) → points ≡ [] → Made [] (slice_from n 0 b) b result new
+    → Made points (slice_end_within points n b) b result new
 plain_end points n b result new none made =
-    let E : ℕ × SliceOutcome → Type 0 = λ end. Made end b result new in
-    subst E (sym (rw none (none_plain n b))) made
+    let E : ℕ × SliceOutcome → Type 0 = λ end. Made [] end b result new in
+    let P : Points → Type 0 = λ ps. Made ps (slice_end_within ps n b) b result new in
+    subst P (sym none) (subst E (sym (none_plain n b)) made)
 
 -- ---- marks
 
@@ -260,11 +312,15 @@ pub still_marked : (points : Points) (marks marks' : MarksState) (n : ℕ) (old 
     → Leaves n old (sliced k traffic ending) marks marks' → (b : Board) → RepresentsBoard old b
     → IsMarked points marks'
 still_marked points marks marks' n old k traffic ending marked leaves b represents =
-    subst (λ m. IsMarked points m) (sym (leaves b represents).0) (record {
-      addresses = marked.addresses;
-      watches =
-          ap (map (watch_of (after_steps (k - 1) b).machine (after_steps k b).machine)) marked.watches;
-    })
+    subst (λ m. IsMarked points m) (sym (leaves b represents).0) (marked_still points marks k b marked)
+
+pub seen_step : (points : Points) (marks marks' : MarksState) (n : ℕ) (old : LabState) (k : ℕ)
+    (traffic : List PortOperation) (ending : SliceOutcome) → IsMarked points marks
+    → Leaves n old (sliced k traffic ending) marks marks' → (b : Board) → RepresentsBoard old b
+    → IsAfterStep points (after_steps (k - 1) b) (after_steps k b) marks'
+seen_step points marks marks' n old k traffic ending marked leaves b represents =
+    subst (λ m. IsAfterStep points (after_steps (k - 1) b) (after_steps k b) m) (sym (leaves b represents).0)
+    (after_step points marks k b marked)
 
 -- any other answer is an error
 pub same_marks : (points : Points) (marks marks' : MarksState) (n : ℕ) (old new : LabState)

@@ -1,20 +1,26 @@
 -- Breakpoints with conditions or log messages (Debug Adapter Protocol, "SourceBreakpoint").
-use Rattle.std.specs.Prelude.{◌≡◌, ℕ, List, [], Bool, true, ◌&&◌, ◌==◌, not, Option, Some, None, is_none}
-use Rattle.std.specs.Prelude.{Result, Ok, Err, if◌then◌else◌}
+use Rattle.std.specs.Prelude.{◌≡◌, ℕ, List, map, filter_map, Bool, true, false, ◌&&◌, ◌==◌, not}
+use Rattle.std.specs.Prelude.{Option, Some, None, is_none, Result, Ok, Err}
 use Rattle.std.specs.List.{list_any}
 use Rattle.asm_expr.specs.declared.evaluation.ExprFault.{ExprFault}
 use Rattle.lab_image.specs.Addresses.{has}
-use Rattle.lab_core.specs.declared.answer.SliceOutcome.{SliceOutcome}
-use Rattle.lab_core.specs.declared.answer.SliceOutcome.TheVariants as outcome
-use Rattle.lab_core.specs.declared.answer.Stop.TheVariants as stop
+use Rattle.lab_shown.specs.declared.place.Place.{Place}
+use Rattle.lab_core.specs.declared.marks.Watch.{Watch}
 use Rattle.lab_core.specs.Board.{Board}
 use Rattle.lab_core.specs.Marks.{MarksState}
 use Rattle.dap_expr.specs.declared.expression.Expression.{Expression}
 use Rattle.dap_expr.specs.Values.{value_on}
 use Rattle.dap_slice.specs.declared.conditions.ConditionalBreakpoint.{ConditionalBreakpoint}
+use Rattle.dap_slice.specs.declared.conditions.Trigger.{Trigger}
+use Rattle.dap_slice.specs.declared.conditions.Trigger.TheVariants as trigger
+
+-- the address is one to which PC is to come
+abbrev pub is_reached : ℕ → Trigger → Bool
+is_reached address (trigger.Address a) = a == address
+is_reached address (trigger.Change place) = false
 
 abbrev pub is_there : ℕ → ConditionalBreakpoint → Bool
-is_there address p = p.address == address
+is_there address p = is_reached address p.trigger
 
 -- a breakpoint is at this address
 abbrev pub is_any_at : List ConditionalBreakpoint → ℕ → Bool
@@ -41,11 +47,17 @@ stops_on b p = is_none p.log && is_met_on b p
 abbrev pub is_any_met : List ConditionalBreakpoint → Board → Bool
 is_any_met points b = b.is_attached && list_any (stops_on b) points
 
--- how a slice ends that comes to a board and has no other reason to end there
-abbrev pub outcome_at : List ConditionalBreakpoint → Board → SliceOutcome
-outcome_at points b = if is_any_met points b then outcome.Stop stop.Breakpoint else outcome.More
+-- ---- marks
 
--- the marks are at these breakpoints
+abbrev pub watched_by : Trigger → Option Place
+watched_by (trigger.Address address) = None
+watched_by (trigger.Change place) = Some place
+
+-- the places that these breakpoints watch, in their order
+abbrev pub watched_places : List ConditionalBreakpoint → List Place
+watched_places points = filter_map (λ p. watched_by p.trigger) points
+
+-- the marks are at these breakpoints' addresses, and the watches are of their places
 pub record IsMarked (points : List ConditionalBreakpoint) (marks : MarksState) : Type 0 where
   pub addresses : (address : ℕ) → has marks.addresses address ≡ is_any_at points address
-  pub watches : marks.watches ≡ []
+  pub watches : map (λ (w : Watch). w.place) marks.watches ≡ watched_places points

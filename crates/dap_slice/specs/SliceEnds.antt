@@ -1,34 +1,57 @@
--- Slices of a run of at most so many steps, which end where they come to a breakpoint with a condition.
-use Rattle.std.specs.Prelude.{◌≡◌, ℕ, List, Bool, Result, IfOk}
+-- Slices of a run of at most so many steps, which end where they come to a breakpoint with a condition, or a
+-- step changes a watched place.
+use Rattle.std.specs.Prelude.{◌≡◌, ◌≢◌, ◌≤◌, ℕ, ◌-◌, List, Bool, ◌||◌, Option, None, is_some, Result, IfOk}
+use Rattle.std.specs.Prelude.{if◌then◌else◌}
 use Rattle.std.specs.declared.alloc.AllocError.{AllocError}
+use Rattle.lab_shown.specs.declared.place.PlaceChange.{PlaceChange}
 use Rattle.lab_core.specs.declared.answer.SliceOutcome.{SliceOutcome}
 use Rattle.lab_core.specs.declared.answer.SliceOutcome.TheVariants as outcome
+use Rattle.lab_core.specs.declared.answer.Stop.{Stop}
+use Rattle.lab_core.specs.declared.answer.Stop.TheVariants as stop
 use Rattle.lab_core.specs.Board.{Board}
 use Rattle.lab_core.specs.Slices.{after_steps, traffic_of, left_by}
 use Rattle.lab_core.specs.SliceEnds.{slice_from}
 use Rattle.lab_core.specs.declared.run_state.RunState.TheVariants.{Running}
 use Rattle.lab_core.specs.Labs.{LabState, RepresentsBoard}
-use Rattle.lab_core.specs.Marks.{first_after}
+use Rattle.lab_core.specs.Marks.{first_after, value_at}
 use Rattle.dap_slice.specs.declared.conditions.ConditionalBreakpoint.{ConditionalBreakpoint}
 use Rattle.dap_slice.specs.declared.slice.SliceResult.{SliceResult}
-use Rattle.dap_slice.specs.Conditions.{is_any_at, outcome_at}
+use Rattle.dap_slice.specs.Conditions.{is_any_at, is_any_met}
+use Rattle.dap_slice.specs.Changes.{is_any_changed, first_change, change_at}
 
--- whether the board after so many steps is at one of these breakpoints
+-- whether the board after so many steps is at one of these breakpoints, or the last step changed a watched
+-- place
 abbrev pub is_at_after : List ConditionalBreakpoint → Board → ℕ → Bool
-is_at_after points b j = is_any_at points (after_steps j b).machine.regs.pc
+is_at_after points b j =
+    is_any_at points (after_steps j b).machine.regs.pc
+    || is_any_changed points (after_steps (j - 1) b) (after_steps j b)
 
--- the first count from 1 to n at which the run is at a breakpoint, or n
+-- the first count from 1 to n at which that is so, or n
 abbrev pub first_arrival : List ConditionalBreakpoint → ℕ → Board → ℕ
 first_arrival points n b = first_after (is_at_after points b) n 0
 
--- a slice that ends for no other reason stops at a breakpoint whose condition is true
+-- how a slice ends whose last step leads from the first board to the second, if it has no other reason to
+abbrev pub outcome_at : List ConditionalBreakpoint → Board → Board → SliceOutcome
+outcome_at points was b =
+    if is_any_met points b || is_some (change_at points was b) then outcome.Stop stop.Breakpoint
+    else outcome.More
+
+-- a slice that ends for no other reason stops where a breakpoint is met
 abbrev pub stopped_if_met : List ConditionalBreakpoint → Board → ℕ × SliceOutcome → ℕ × SliceOutcome
-stopped_if_met points b (k, outcome.More) = (k, outcome_at points (after_steps k b))
+stopped_if_met points b (k, outcome.More) =
+    (k, outcome_at points (after_steps (k - 1) b) (after_steps k b))
 stopped_if_met points b end = end
 
 -- where a slice of at most n steps ends, and how
 abbrev pub slice_end_within : List ConditionalBreakpoint → ℕ → Board → ℕ × SliceOutcome
 slice_end_within points n b = stopped_if_met points b (slice_from (first_arrival points n b) 0 b)
+
+-- The change of which a stopped run is told: its last step's, whatever else stopped it there. A run that goes
+-- on, waits or has ended tells none.
+abbrev pub change_after : List ConditionalBreakpoint → ℕ × SliceOutcome → Board → Option PlaceChange
+change_after points (k, outcome.Stop reason) b =
+    first_change points (after_steps (k - 1) b) (after_steps k b)
+change_after points end b = None
 
 -- the board after a slice that ends there
 abbrev pub after_end : ℕ × SliceOutcome → Board → Board
@@ -37,14 +60,17 @@ after_end end b = left_by end.1 (after_steps end.0 b)
 abbrev pub after_slice_within : List ConditionalBreakpoint → ℕ → Board → Board
 after_slice_within points n b = after_end (slice_end_within points n b) b
 
--- it made so many steps, with these port operations, and ended so
-pub record IsSliceEnd (end : ℕ × SliceOutcome) (b : Board) (s : SliceResult) : Type 0 where
+-- it made so many steps, with these port operations, ended so, and tells this change
+pub record IsSliceEnd (points : List ConditionalBreakpoint) (end : ℕ × SliceOutcome) (b : Board)
+    (s : SliceResult)
+    : Type 0 where
   pub executed : s.executed ≡ end.0
   pub traffic : s.traffic ≡ traffic_of end.0 b
   pub outcome : s.outcome ≡ end.1
+  pub change : s.change ≡ change_after points end b
 
 abbrev pub IsSliceWithin : List ConditionalBreakpoint → ℕ → Board → SliceResult → Type 0
-IsSliceWithin points n b s = IsSliceEnd (slice_end_within points n b) b s
+IsSliceWithin points n b s = IsSliceEnd points (slice_end_within points n b) b s
 
 -- so it did from each board that the lab represents, if the run goes on there
 abbrev pub MakesSlice : List ConditionalBreakpoint → ℕ → LabState → Result SliceResult AllocError → LabState
@@ -52,3 +78,19 @@ abbrev pub MakesSlice : List ConditionalBreakpoint → ℕ → LabState → Resu
 MakesSlice points n old result new =
     (b : Board) → RepresentsBoard old b → b.run ≡ Running
     → IfOk result (λ s. IsSliceWithin points n b s × RepresentsBoard new (after_slice_within points n b))
+
+-- ---- for laws
+
+-- the step from the first board to the second made this change
+pub record IsStepChange (was b : Board) (c : PlaceChange) : Type 0 where
+  pub before : c.before ≡ value_at c.place was.machine
+  pub after : c.after ≡ value_at c.place b.machine
+  pub differ : c.before ≢ c.after
+  pub by : c.by ≡ was.machine.regs.pc
+
+-- the run was stopped after the steps that were made, and the last one made this change
+pub record StopsAtChange (end : ℕ × SliceOutcome) (b : Board) (c : PlaceChange) : Type 0 where
+  pub some : 1 ≤ end.0
+  pub reason : Stop
+  pub outcome : end.1 ≡ outcome.Stop reason
+  pub change : IsStepChange (after_steps (end.0 - 1) b) (after_steps end.0 b) c

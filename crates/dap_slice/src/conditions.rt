@@ -1,10 +1,11 @@
 //! Breakpoints with conditions or log messages.
-ghost use Rattle.std.specs.Prelude.{◌≡◌, ◌++◌, ◌∷◌, [], IfOk, OnOk, OnErr};
+ghost use Rattle.std.specs.Prelude.{◌≡◌, ◌++◌, ◌∷◌, [], List, IfOk, OnOk, OnErr};
 ghost use Rattle.std.specs.List.{list_any};
 ghost use Rattle.asm_expr.specs.declared.evaluation.ExprFault.{ExprFault};
 ghost use Rattle.lab_core.specs.Board.{Board};
 ghost use Rattle.lab_core.specs.Labs.{RepresentsBoard};
-ghost use Rattle.dap_slice.specs.Conditions.{is_true, holds_on, is_met_on, stops_on};
+ghost use Rattle.dap_slice.specs.declared.conditions.ConditionalBreakpoint.{ConditionalBreakpoint};
+ghost use Rattle.dap_slice.specs.Conditions.{is_reached, is_true, holds_on, is_met_on, stops_on, IsMarked};
 
 use asm_expr::evaluation::ExprFault;
 use base_text::text::Text;
@@ -12,6 +13,7 @@ use dap_expr::expression::Expression;
 use dap_log::message::LogMessage;
 use lab_core::lab::Lab;
 use lab_core::marks::Marks;
+use lab_shown::place::Place;
 use std::alloc::{AllocError, Global};
 use std::marker::Model;
 
@@ -23,16 +25,25 @@ pub struct LogPoint {
     pub line: u32,
 }
 
-/// A breakpoint at an address that is met only where its condition is true, if it has one. It stops the run
-/// there, or tells its log message.
+/// Where a breakpoint is met.
+#[derive(Clone, Copy)]
+pub enum Trigger {
+    /// Where PC comes to this address.
+    Address(u16),
+    /// Where an instruction has just changed this place.
+    Change(Place),
+}
+
+/// A breakpoint that is met only where its condition is true, if it has one. It stops the run there, or, if
+/// it is at an address, tells its log message.
 #[derive(Drop)]
 pub struct ConditionalBreakpoint {
-    pub address: u16,
+    pub trigger: Trigger,
     pub condition: Option<Expression>,
     pub log: Option<LogPoint>,
 }
 
-/// Such breakpoints, with marks at their addresses.
+/// Such breakpoints, with marks at their addresses and watches of their places.
 #[derive(Drop)]
 pub struct ConditionalBreakpoints {
     pub(crate) points: Vec<ConditionalBreakpoint>,
@@ -64,7 +75,8 @@ fn is_true(value: Result<u16, ExprFault>) -> bool
     }
 }
 
-fn holds(lab: &Lab, condition: &Option<Expression>) -> bool
+/// Whether a breakpoint's condition is true.
+pub(crate) fn holds(lab: &Lab, condition: &Option<Expression>) -> bool
     ensures { (b : Board) → RepresentsBoard lab.now b → result ≡ holds_on b condition.now }
 {
     match condition {
@@ -73,11 +85,21 @@ fn holds(lab: &Lab, condition: &Option<Expression>) -> bool
     }
 }
 
+// Whether PC is to come to this address.
+fn is_reached(address: u16, trigger: Trigger) -> bool
+    ensures { result ≡ is_reached address trigger }
+{
+    match trigger {
+        Trigger::Address(there) => there == address,
+        Trigger::Change(_) => false,
+    }
+}
+
 /// Whether a breakpoint is at PC and its condition is true.
 pub(crate) fn is_met(lab: &Lab, point: &ConditionalBreakpoint) -> bool
     ensures { (b : Board) → RepresentsBoard lab.now b → result ≡ is_met_on b point.now }
 {
-    point.address == lab.regs().pc && holds(lab, &point.condition)
+    is_reached(lab.regs().pc, point.trigger) && holds(lab, &point.condition)
 }
 
 fn stops(lab: &Lab, point: &ConditionalBreakpoint) -> bool
@@ -96,6 +118,21 @@ pub(crate) fn is_any_met(lab: &Lab, points: &[ConditionalBreakpoint]) -> bool
         }
     }
     false
+}
+
+// Marks where a breakpoint may be met.
+fn mark(marks: &mut Marks, trigger: Trigger) -> Result<(), AllocError>
+    ensures ok { (points : List ConditionalBreakpoint) (p : ConditionalBreakpoint) → p.trigger ≡ trigger
+        → IsMarked points marks.old → OnOk result (IsMarked (points ++ p ∷ []) marks.new) }
+    ensures err { OnErr result (marks.new ≡ marks.old) }
+{
+    match trigger {
+        Trigger::Address(address) => {
+            marks.add_address(address);
+            Ok(())
+        }
+        Trigger::Change(place) => marks.watch(place),
+    }
 }
 
 impl ConditionalBreakpoints {
@@ -117,7 +154,7 @@ impl ConditionalBreakpoints {
         &self.points
     }
 
-    /// Whether one of them stops a run that comes to where the board is.
+    /// Whether one of those at addresses stops a run that comes to where the board is.
     pub fn is_any_met(&self, lab: &Lab) -> bool
         ensures { (b : Board) → RepresentsBoard lab.now b → result ≡ list_any (stops_on b) self.now }
     {
@@ -129,9 +166,9 @@ impl ConditionalBreakpoints {
         ensures ok { OnOk result (self.new ≡ self.old ++ point ∷ []) }
         ensures err { OnErr result (self.new ≡ self.old) }
     {
-        let address = point.address;
-        self.points.push(point)?;
-        self.marks.add_address(address);
+        self.points.reserve(1)?;
+        mark(&mut self.marks, point.trigger)?;
+        self.points.push_reserved(point);
         Ok(())
     }
 }

@@ -1,22 +1,27 @@
 //! Laws of the definitions.
-ghost use Rattle.std.specs.Prelude.{◌≡◌, ◌≤◌, ◌<◌, ℕ, List, [], false};
+ghost use Rattle.std.specs.Prelude.{◌≡◌, ◌≤◌, ◌<◌, ℕ, ◌-◌, List, [], Some, false};
+ghost use Rattle.lab_shown.specs.declared.place.PlaceChange.{PlaceChange};
+ghost use Rattle.lab_core.specs.declared.answer.SliceOutcome.TheVariants.{More, Stop};
+ghost use Rattle.lab_core.specs.declared.answer.Stop.TheVariants.{Breakpoint};
 ghost use Rattle.lab_core.specs.Board.{Board};
 ghost use Rattle.lab_core.specs.Slices.{after_steps};
 ghost use Rattle.lab_core.specs.SliceEnds.{slice_from};
 ghost use Rattle.dap_slice.specs.declared.conditions.ConditionalBreakpoint.{ConditionalBreakpoint};
-ghost use Rattle.dap_slice.specs.Conditions.{is_any_met};
 ghost use Rattle.dap_slice.specs.Logs.{logs_before, logs_of_steps};
-ghost use Rattle.dap_slice.specs.SliceEnds.{slice_end_within, is_at_after, first_arrival};
+ghost use Rattle.dap_slice.specs.Changes.{change_at};
+ghost use Rattle.dap_slice.specs.SliceEnds.{slice_end_within, stopped_if_met, change_after};
+ghost use Rattle.dap_slice.specs.SliceEnds.{is_at_after, first_arrival, outcome_at, StopsAtChange};
 
 /// Without such breakpoints a slice is the board's own.
 pub fn none_is_plain()
     ensures { (n : ℕ) (b : Board) → slice_end_within [] n b ≡ slice_from n 0 b }
 {}
 
-/// Where no breakpoint stops the run, a slice is the board's own, up to the first breakpoint.
+/// Where no breakpoint stops the run, a slice is the board's own, up to the first breakpoint or change of a
+/// watched place.
 pub fn unmet_is_plain()
     ensures { (points : List ConditionalBreakpoint) (n : ℕ) (b : Board)
-        → ((j : ℕ) → j ≤ n → is_any_met points (after_steps j b) ≡ false)
+        → ((j : ℕ) → j ≤ n → outcome_at points (after_steps (j - 1) b) (after_steps j b) ≡ More)
         → slice_end_within points n b ≡ slice_from (first_arrival points n b) 0 b }
 {}
 
@@ -26,7 +31,7 @@ pub fn end_is_within()
         → (slice_end_within points n b).0 ≤ n }
 {}
 
-/// A slice comes to no breakpoint before its last step.
+/// A slice comes to no breakpoint and changes no watched place before its last step.
 pub fn none_is_passed()
     ensures { (points : List ConditionalBreakpoint) (n : ℕ) (b : Board) (j : ℕ) → 1 ≤ j
         → j < (slice_end_within points n b).0 → is_at_after points b j ≡ false }
@@ -37,4 +42,20 @@ pub fn each_step_is_told()
     ensures { (points : List ConditionalBreakpoint) (n : ℕ) (b : Board)
         → logs_before points (slice_end_within points n b).0 b
         ≡ logs_of_steps points (slice_end_within points n b).0 b }
+{}
+
+/// The change that a slice tells is its last step's, and the run is stopped there.
+pub fn a_change_stops()
+    ensures { (points : List ConditionalBreakpoint) (n : ℕ) (b : Board) (change : PlaceChange)
+        → change_after points (slice_end_within points n b) b ≡ Some change
+        → StopsAtChange (slice_end_within points n b) b change }
+{}
+
+/// Where an attached run goes on up to a step whose change meets a breakpoint, it is stopped there, and told
+/// of that change.
+pub fn a_change_is_told()
+    ensures { (points : List ConditionalBreakpoint) (k : ℕ) (b : Board) (change : PlaceChange)
+        → change_at points (after_steps (k - 1) b) (after_steps k b) ≡ Some change
+        → (stopped_if_met points b (k, More) ≡ (k, Stop Breakpoint))
+        × (change_after points (k, Stop Breakpoint) b ≡ Some change) }
 {}

@@ -1,5 +1,5 @@
 //! Slices of at most so many steps.
-ghost use Rattle.std.specs.Prelude.{◌≡◌, ◌≢◌, ◌≤◌, ℕ, List, length, Ok, IfOk, OnErr};
+ghost use Rattle.std.specs.Prelude.{◌≡◌, ◌≢◌, ◌≤◌, ℕ, ◌-◌, List, [], length, None, Ok, IfOk, OnErr};
 ghost use Rattle.i80_exec.specs.declared.ports.PortOperation.{PortOperation};
 ghost use Rattle.lab_core.specs.declared.answer.SliceOutcome.{SliceOutcome};
 ghost use Rattle.lab_core.specs.declared.run_state.RunState.TheVariants.{Running};
@@ -7,17 +7,20 @@ ghost use Rattle.lab_core.specs.Board.{Board};
 ghost use Rattle.lab_core.specs.Slices.{after_steps, left_by};
 ghost use Rattle.lab_core.specs.SliceEnds.{slice_from};
 ghost use Rattle.lab_core.specs.Labs.{RepresentsBoard};
-ghost use Rattle.dap_slice.specs.Conditions.{outcome_at};
-ghost use Rattle.dap_slice.specs.SliceEnds.{MakesSlice};
-ghost use Rattle.dap_slice.specs.SliceEnds.{IsSliceEnd, IsSliceWithin, stopped_if_met};
+ghost use Rattle.dap_slice.specs.Changes.{IsAfterStep};
+ghost use Rattle.dap_slice.specs.SliceEnds.{MakesSlice, IsSliceEnd, IsSliceWithin};
+ghost use Rattle.dap_slice.specs.SliceEnds.{outcome_at, stopped_if_met};
 ghost use Rattle.dap_slice.specs.SliceEnds.{after_end, after_slice_within};
 
+use crate::changes::{change_after, first_change};
 use crate::conditions::{ConditionalBreakpoint, ConditionalBreakpoints, is_any_met};
 use i80_devs::traffic::Traffic;
 use lab_core::answer::{Answer, SliceOutcome, Stop};
 use lab_core::event::Event;
 use lab_core::fault::EventFault;
 use lab_core::lab::Lab;
+use lab_core::marks::Marks;
+use lab_shown::place::PlaceChange;
 use std::alloc::AllocError;
 
 /// What a slice did.
@@ -27,11 +30,14 @@ pub struct SliceResult {
     pub executed: u16,
     pub traffic: Traffic,
     pub outcome: SliceOutcome,
+    /// The last step's change, if the run is stopped there.
+    pub change: Option<PlaceChange>,
 }
 
-// The slice that a board answers with.
+// The slice that a board answers with, which tells no change.
 fn slice_in(answer: Result<Answer, EventFault>) -> Result<SliceResult, AllocError>
     ensures ok { IfOk result (λ s. answer ≡ Ok (Answer.Sliced s.executed s.traffic s.outcome)) }
+    ensures change { IfOk result (λ s. s.change ≡ None) }
     ensures err { OnErr result ((k : ℕ) (operations : List PortOperation) (ending : SliceOutcome)
         → answer ≢ Ok (Answer.Sliced k operations ending)) }
 {
@@ -46,6 +52,7 @@ fn slice_in(answer: Result<Answer, EventFault>) -> Result<SliceResult, AllocErro
             executed,
             traffic,
             outcome,
+            change: None,
         }),
         other => {
             drop(other);
@@ -58,7 +65,7 @@ fn slice_in(answer: Result<Answer, EventFault>) -> Result<SliceResult, AllocErro
 fn plain_slice(lab: &mut Lab, most: u16) -> Result<SliceResult, AllocError>
     requires { (1 ≤ most) × (most ≤ 4096) }
     ensures made { (b : Board) → RepresentsBoard lab.old b → b.run ≡ Running
-        → IfOk result (λ s. IsSliceEnd (slice_from most 0 b) b s
+        → IfOk result (λ s. IsSliceEnd [] (slice_from most 0 b) b s
         × RepresentsBoard lab.new (after_end (slice_from most 0 b) b)) }
     ensures few { (b : Board) → RepresentsBoard lab.old b → IfOk result (λ s. length s.traffic ≤ 4096) }
     ensures err { (b : Board) → RepresentsBoard lab.old b → OnErr result (lab.new ≡ lab.old) }
@@ -67,12 +74,14 @@ fn plain_slice(lab: &mut Lab, most: u16) -> Result<SliceResult, AllocError>
     slice_in(answer)
 }
 
-// Stops a run that goes on, if it is at a breakpoint whose condition is true.
-fn stop_if_met(lab: &mut Lab, points: &[ConditionalBreakpoint]) -> SliceOutcome
-    ensures { (b : Board) → RepresentsBoard lab.old b → b.run ≡ Running
-        → (result ≡ outcome_at points.now b) × RepresentsBoard lab.new (left_by result b) }
+// Stops a run that goes on, if it is at a breakpoint whose condition is true, or the last step's change meets
+// one.
+fn stop_if_met(lab: &mut Lab, points: &[ConditionalBreakpoint], marks: &Marks) -> SliceOutcome
+    ensures { (was b : Board) → RepresentsBoard lab.old b → b.run ≡ Running
+        → IsAfterStep points.now was b marks.now
+        → (result ≡ outcome_at points.now was b) × RepresentsBoard lab.new (left_by result b) }
 {
-    if !is_any_met(lab, points) {
+    if !is_any_met(lab, points) && first_change(lab, points, marks).is_none() {
         return SliceOutcome::More;
     }
     let answer = lab.apply(&Event::Pause);
@@ -85,23 +94,29 @@ fn stop_if_met(lab: &mut Lab, points: &[ConditionalBreakpoint]) -> SliceOutcome
     }
 }
 
-// How a slice ends that has come to this outcome: if it is `More`, the run may be at a breakpoint.
-fn end_at(lab: &mut Lab, points: &[ConditionalBreakpoint], outcome: SliceOutcome) -> SliceOutcome
+// How a slice ends that has come to this outcome: if it is `More`, a breakpoint may be met.
+fn end_at(
+    lab: &mut Lab,
+    points: &[ConditionalBreakpoint],
+    marks: &Marks,
+    outcome: SliceOutcome,
+) -> SliceOutcome
     ensures { (b : Board) (k : ℕ) → b.run ≡ Running
+        → IsAfterStep points.now (after_steps (k - 1) b) (after_steps k b) marks.now
         → RepresentsBoard lab.old (left_by outcome (after_steps k b))
         → (result ≡ (stopped_if_met points.now b (k, outcome)).1)
         × RepresentsBoard lab.new (left_by result (after_steps k b)) }
 {
     match outcome {
-        SliceOutcome::More => stop_if_met(lab, points),
+        SliceOutcome::More => stop_if_met(lab, points, marks),
         other => other,
     }
 }
 
 impl ConditionalBreakpoints {
-    /// Makes a slice of at most `most` steps, which ends where the run comes to one of these breakpoints and
-    /// stops it if the condition is true. A board without a run that goes on gives the same error as one that
-    /// runs out of memory.
+    /// Makes a slice of at most `most` steps, which ends where the run comes to one of these breakpoints or
+    /// changes a place that one watches, and stops it there if the condition is true. A board without a run
+    /// that goes on gives the same error as one that runs out of memory.
     pub fn slice(&mut self, lab: &mut Lab, most: u16) -> Result<SliceResult, AllocError>
         requires { (1 ≤ most) × (most ≤ 4096) × ((b : Board) × RepresentsBoard lab.old b) }
         ensures made { MakesSlice self.old most lab.old result lab.new }
@@ -115,7 +130,7 @@ impl ConditionalBreakpoints {
         }
     }
 
-    // Makes a slice that tests after each step whether the run has come to a breakpoint.
+    // Makes a slice that tests after each step whether the run has come to a breakpoint or changed a place.
     fn slice_to_point(&mut self, lab: &mut Lab, most: u16) -> Result<SliceResult, AllocError>
         requires most { (1 ≤ most) × (most ≤ 4096) }
         requires board { (b : Board) × RepresentsBoard lab.old b }
@@ -128,16 +143,13 @@ impl ConditionalBreakpoints {
     {
         let answer = lab.slice_to(most, &mut self.marks);
         let points = self.points.as_slice();
-        let SliceResult {
-            executed,
-            traffic,
-            outcome,
-        } = slice_in(answer)?;
-        let outcome = end_at(lab, points, outcome);
+        let slice = slice_in(answer)?;
+        let outcome = end_at(lab, points, &self.marks, slice.outcome);
+        let change = change_after(lab, points, &self.marks, outcome);
         Ok(SliceResult {
-            executed,
-            traffic,
             outcome,
+            change,
+            ..slice
         })
     }
 }

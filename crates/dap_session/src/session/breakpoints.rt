@@ -13,7 +13,7 @@ use base_text::sequence::Sequence;
 use base_text::text::Text;
 use dap_editor::request::{FunctionBreakpoint, LineBreakpoint};
 use dap_launch::points::{copy_functions, copy_lines, labels_where, points_where};
-use dap_launch::program::{Program, arm_with};
+use dap_launch::program::{Program, ProgramBreakpoints, arm_with};
 use dap_launch::reply::{Reply, succeed};
 use dap_lines::code_lines::locations;
 use dap_messages::message::{EditorBody, PlacedBreakpoint};
@@ -86,7 +86,7 @@ impl Session {
     }
 
     // Makes the board stop at these lines, if the program is this source, and returns those breakpoints that
-    // have conditions.
+    // have options, and what is watched.
     fn arm_lines(
         &mut self,
         alloc: Global,
@@ -102,21 +102,21 @@ impl Session {
         match program_at(path, &self.settings.program) {
             None => Ok(None),
             Some(program) => {
-                let points = arm_with(
-                    alloc,
-                    &mut self.lab,
-                    program,
-                    self.settings.points.number_of(path),
-                    source.used(),
-                    self.settings.points.functions(),
-                )?;
+                let kept = &self.settings.points;
+                let wanted = ProgramBreakpoints {
+                    number: kept.number_of(path),
+                    lines: source.used(),
+                    functions: kept.functions(),
+                    on_data: kept.on_data(),
+                };
+                let points = arm_with(alloc, &mut self.lab, program, &wanted)?;
                 Ok(Some(points))
             }
         }
     }
 
-    // Takes these breakpoints in place of those with conditions, if there are some.
-    fn keep_conditional(&mut self, points: Option<ConditionalBreakpoints>)
+    // Takes these breakpoints in place of those with options, if there are some.
+    pub(super) fn keep_conditional(&mut self, points: Option<ConditionalBreakpoints>)
         ensures { (s : SessionState) → RepresentsSession self.old s → RepresentsSession self.new
             (with_conditional (unwrap_or points s.settings.conditional) s) }
     {
@@ -178,7 +178,8 @@ impl Session {
         )
     }
 
-    // Makes the program's board stop at these labels, and returns those breakpoints that have conditions.
+    // Makes the program's board stop at these labels, and returns those breakpoints that have options, and
+    // what is watched.
     fn arm_labels(
         &mut self,
         alloc: Global,
@@ -197,17 +198,15 @@ impl Session {
             None => Ok(None),
             Some(program) => {
                 let path = program.launch.program.as_str();
-                let points = &self.settings.points;
-                let number = points.number_of(path);
-                let conditional = arm_with(
-                    alloc,
-                    &mut self.lab,
-                    program,
-                    number,
-                    points.lines_at(path),
+                let kept = &self.settings.points;
+                let wanted = ProgramBreakpoints {
+                    number: kept.number_of(path),
+                    lines: kept.lines_at(path),
                     functions,
-                )?;
-                Ok(Some(conditional))
+                    on_data: kept.on_data(),
+                };
+                let points = arm_with(alloc, &mut self.lab, program, &wanted)?;
+                Ok(Some(points))
             }
         }
     }

@@ -218,6 +218,8 @@ impl Session {
             EditorCommand::SetFunctionBreakpoints(functions) => {
                 self.set_functions(alloc, functions)
             }
+            EditorCommand::DataBreakpointInfo(query) => self.describe_data(alloc, query),
+            EditorCommand::SetDataBreakpoints(on_data) => self.set_data(alloc, on_data),
             EditorCommand::BreakpointLocations { path, first, last } => {
                 self.locate(alloc, path, *first, *last)
             }

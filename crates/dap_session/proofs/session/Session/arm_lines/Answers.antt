@@ -14,5 +14,6 @@ returns-in_ok-points-in-Some-clause-ok c = λ s represents.
     let number : c.number_of.result ≡ number_of c.args.source.now.path settings.points.lists =
     c.number_of.ensures.number ∙ ap (λ path. number_of path settings.points.lists) c.as_str-path.ensures in
     stands_lines c.args.source.now c.in_ok-points-in-Some.points _ c.arm_with.new.lab c.in-Some.program.now
-    c.number_of.result c.used.result.now c.functions.result.now s (subst Q (sym c.self.view_is) represents) at
-    number c.used.ensures.lines c.functions.ensures.labels c.in_ok-points-in-Some.ensures.ok
+    c.number_of.result c.used.result.now c.functions.result.now c.on_data.result.now s
+    (subst Q (sym c.self.view_is) represents) at number c.used.ensures.lines c.functions.ensures.labels
+    c.on_data.ensures.points c.in_ok-points-in-Some.ensures.ok

@@ -1,0 +1,4 @@
+pub mod Places
+pub mod Info
+pub mod Points
+pub mod Laws

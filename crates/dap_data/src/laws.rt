@@ -1,0 +1,36 @@
+//! Laws of the definitions.
+ghost use Rattle.std.specs.Prelude.{◌≡◌, ◌++◌, ◌≤◌, ◌+◌, ℕ, List, All, Contains, Some, true};
+ghost use Rattle.base_text.specs.Bytes.{Text};
+ghost use Rattle.lab_core.specs.Board.{Board};
+ghost use Rattle.dap_slice.specs.declared.conditions.ConditionalBreakpoint.{ConditionalBreakpoint};
+ghost use Rattle.dap_messages.specs.declared.message.PlacedBreakpoint.{PlacedBreakpoint};
+ghost use Rattle.dap_editor.specs.declared.request.DataQuery.{DataQuery};
+ghost use Rattle.dap_editor.specs.declared.request.DataBreakpoint.{DataBreakpoint};
+ghost use Rattle.dap_data.specs.declared.place.DataPlace.TheVariants.{Bytes};
+ghost use Rattle.dap_data.specs.Places.{registers, pairs, id_of, data_named};
+ghost use Rattle.dap_data.specs.Info.{data_info};
+ghost use Rattle.dap_data.specs.Points.{watches_on};
+ghost use Rattle.dap_data.specs.Laws.{SetsDescribed, IsToldAs, AreAllWatched, IsOfVerified};
+
+/// Each register, each pair, and 1 to 16 bytes that are in memory are set by their text.
+pub fn ids_are_read()
+    ensures registers { All (λ d. data_named (id_of d) ≡ Some d) (registers ++ pairs) }
+    ensures bytes { (a n : ℕ) → 1 ≤ n → n ≤ 16 → a + n ≤ 65536
+        → data_named (id_of (Bytes a n)) ≡ Some (Bytes a n) }
+{}
+
+/// The text of data that an editor is told of sets the very data that is described.
+#[tactic(auto, using(crate::proofs::InfoLemmas::told_is_set))]
+pub fn told_data_is_set()
+    ensures { (b : Board) (q : DataQuery) (id : Text) → (data_info b q).data_id ≡ Some id
+        → SetsDescribed id (data_info b q) }
+{}
+
+/// A breakpoint of which an editor is told that it is verified is watched at each of its places under its
+/// condition; and only such breakpoints are watched.
+pub fn verified_is_watched()
+    ensures verified { (b : Board) (ds : List DataBreakpoint) (d : DataBreakpoint) (p : PlacedBreakpoint)
+        → IsToldAs b ds d p → p.is_verified ≡ true → AreAllWatched (watches_on b ds) d }
+    ensures others { (b : Board) (ds : List DataBreakpoint) (w : ConditionalBreakpoint)
+        → Contains (watches_on b ds) w → IsOfVerified b ds w }
+{}

@@ -1,0 +1,84 @@
+//! Breakpoints on data.
+ghost use Rattle.std.specs.Prelude.{◌≡◌, ◌≤◌, length, IfOk, unwrap_or};
+ghost use Rattle.dap_session.specs.Breakpoints.{data_conditional, setting_data, describing_data};
+ghost use Rattle.dap_session.specs.States.{SessionState, with_points};
+ghost use Rattle.dap_session.specs.Represents.{RepresentsSession, RepliesAs};
+
+use crate::session::Session;
+use base_text::sequence::Sequence;
+use dap_data::info::data_info;
+use dap_data::points::copy_data;
+use dap_editor::request::{DataBreakpoint, DataQuery};
+use dap_launch::points::data_where;
+use dap_launch::program::{ProgramBreakpoints, conditional_of};
+use dap_launch::reply::{Reply, succeed};
+use dap_messages::message::EditorBody;
+use dap_program::messages::FollowUp;
+use dap_slice::conditions::ConditionalBreakpoints;
+use std::alloc::{AllocError, Global};
+
+impl Session {
+    // What a breakpoint on data would watch.
+    pub(super) fn describe_data(
+        &self,
+        alloc: Global,
+        query: &DataQuery,
+    ) -> Result<Reply, AllocError>
+        ensures { RepliesAs (describing_data query.now) self.now result self.now }
+    {
+        let info = data_info(alloc, &self.lab, query)?;
+        Ok(succeed(EditorBody::DataInfo(info), FollowUp::Nothing))
+    }
+
+    // Sets the breakpoints on data.
+    pub(super) fn set_data(
+        &mut self,
+        alloc: Global,
+        on_data: &Sequence<DataBreakpoint>,
+    ) -> Result<Reply, AllocError>
+        requires { length on_data.now ≤ 256 }
+        ensures { RepliesAs (setting_data on_data.now) self.old result self.new }
+    {
+        let breakpoints = on_data.as_slice();
+        let kept = copy_data(alloc, breakpoints)?;
+        let points = data_where(alloc, &self.settings.program, breakpoints, &self.lab)?;
+        let conditional = self.watches_with(alloc, breakpoints)?;
+        self.keep_data(kept);
+        self.keep_conditional(conditional);
+        Ok(succeed(EditorBody::Breakpoints(points), FollowUp::Nothing))
+    }
+
+    fn keep_data(&mut self, on_data: Sequence<DataBreakpoint>)
+        ensures { (s : SessionState) → RepresentsSession self.old s → RepresentsSession self.new
+            (with_points (record s.settings.points { on_data = on_data }) s) }
+    {
+        self.settings.points.set_data(on_data);
+    }
+
+    // The program's breakpoints that have options, and what these watch.
+    fn watches_with(
+        &self,
+        alloc: Global,
+        on_data: &[DataBreakpoint],
+    ) -> Result<Option<ConditionalBreakpoints>, AllocError>
+        ensures { (s : SessionState) → RepresentsSession self.now s → IfOk result (λ points.
+            unwrap_or points s.settings.conditional
+            ≡ data_conditional s.settings.program on_data.now s) }
+    {
+        match &self.settings.program {
+            None => Ok(None),
+            Some(program) => {
+                let path = program.launch.program.as_str();
+                let kept = &self.settings.points;
+                let wanted = ProgramBreakpoints {
+                    number: kept.number_of(path),
+                    lines: kept.lines_at(path),
+                    functions: kept.functions(),
+                    on_data,
+                };
+                let points = conditional_of(alloc, &self.lab, program, &wanted)?;
+                Ok(Some(points))
+            }
+        }
+    }
+}
