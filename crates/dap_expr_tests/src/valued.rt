@@ -1,4 +1,5 @@
 //! Values and faults of expressions.
+ghost use Rattle.std.specs.Prelude.{◌≤◌};
 
 use dap_expr::expression::Expression;
 use lab_core::event::Event;
@@ -22,12 +23,39 @@ TABLE: DB 41H,56H,34H,12H
        END BEGIN
 ";
 
-// After five steps: A is 53H, HL and SP are 010DH, DE is FFFFH, PC is 010CH; P is set, and no other flag.
-fn put_program(alloc: Global, lab: &mut Lab) -> Result<bool, AllocError> {
-    let is_loaded = load_text(alloc, lab, "program", PROGRAM)?;
+// Whether the program is loaded, started at 0100, and has made so many steps.
+fn put_program(alloc: Global, lab: &mut Lab, text: &str, steps: u16) -> Result<bool, AllocError>
+    requires some { 1 ≤ steps }
+    requires few { steps ≤ 4096 }
+{
+    let is_loaded = load_text(alloc, lab, "program", text)?;
     let is_started = is_done(lab, &Event::Start(0x100));
-    let is_stepped = is_done(lab, &Event::Slice(5));
+    let is_stepped = is_done(lab, &Event::Slice(steps));
     Ok(is_loaded && is_started && is_stepped)
+}
+
+/// A lab with a program that was started at 0100 and made so many steps. Adds a line to what is wrong if it
+/// wasn't.
+pub(crate) fn lab_after(
+    alloc: Global,
+    text: &str,
+    steps: u16,
+    wrong: &mut String,
+) -> Result<Lab, AllocError>
+    requires some { 1 ≤ steps }
+    requires few { steps ≤ 4096 }
+{
+    let mut lab = Lab::new(alloc)?;
+    if !put_program(alloc, &mut lab, text, steps)? {
+        wrong.push_str("the program isn't stopped")?;
+    }
+    Ok(lab)
+}
+
+/// A lab with the program after five steps: A is 53H, HL and SP are 010DH, DE is FFFFH, PC is 010CH; P is
+/// set, and no other flag.
+pub(crate) fn lab_with_program(alloc: Global, wrong: &mut String) -> Result<Lab, AllocError> {
+    lab_after(alloc, PROGRAM, 5, wrong)
 }
 
 // An expression, and its value in hexadecimal or its fault. The values are worked out by the manual's rules.
@@ -247,15 +275,6 @@ fn put_wrong_limits(alloc: Global, lab: &Lab, wrong: &mut String) -> Result<(), 
         }
     }
     Ok(())
-}
-
-/// A lab with the program, stopped. Adds a line to what is wrong if it isn't.
-pub(crate) fn lab_with_program(alloc: Global, wrong: &mut String) -> Result<Lab, AllocError> {
-    let mut lab = Lab::new(alloc)?;
-    if !put_program(alloc, &mut lab)? {
-        wrong.push_str("the program isn't stopped")?;
-    }
-    Ok(lab)
 }
 
 fn wrong_values(alloc: Global) -> Result<String, AllocError> {

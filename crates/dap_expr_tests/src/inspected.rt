@@ -1,12 +1,11 @@
 //! Expressions, memory, the addresses before others, and the lines of labels.
 
+use crate::valued::lab_after;
 use dap_inspect::before::before_instructions;
 use dap_inspect::expression::evaluate;
 use dap_inspect::label::line_of_label;
 use dap_inspect::memory::read_memory;
-use lab_core::event::Event;
 use lab_core::lab::Lab;
-use lab_test_kit::script::{is_done, load_text};
 use std::alloc::{AllocError, Global};
 
 // The statements stand at 0100, 0102, 0105, 0106, 0109 and 010A, and ROOM is 010C.
@@ -24,12 +23,9 @@ HERE   EQU LOOP
        END BEGIN
 ";
 
-// After two steps: A is 12H, HL is 010AH and PC is 0105H.
-fn put_program(alloc: Global, lab: &mut Lab) -> Result<bool, AllocError> {
-    let is_loaded = load_text(alloc, lab, "program", PROGRAM)?;
-    let is_started = is_done(lab, &Event::Start(0x100));
-    let is_stepped = is_done(lab, &Event::Slice(2));
-    Ok(is_loaded && is_started && is_stepped)
+// A lab with the program after two steps: A is 12H, HL is 010AH and PC is 0105H.
+fn lab_with_program(alloc: Global, wrong: &mut String) -> Result<Lab, AllocError> {
+    lab_after(alloc, PROGRAM, 2, wrong)
 }
 
 const EXPRESSIONS: [(&str, &str); 26] = [
@@ -75,11 +71,8 @@ fn put_evaluated(
 }
 
 fn wrong_expressions(alloc: Global) -> Result<String, AllocError> {
-    let mut lab = Lab::new(alloc)?;
     let mut wrong = String::new(alloc);
-    if !put_program(alloc, &mut lab)? {
-        wrong.push_str("the program isn't stopped")?;
-    }
+    let lab = lab_with_program(alloc, &mut wrong)?;
     for (expression, wanted) in &EXPRESSIONS {
         let mut told = String::new(alloc);
         put_evaluated(alloc, &lab, expression, &mut told)?;
@@ -165,11 +158,8 @@ fn put_labels(alloc: Global, lab: &Lab, wrong: &mut String) -> Result<(), AllocE
 }
 
 fn wrong_looks(alloc: Global) -> Result<String, AllocError> {
-    let mut lab = Lab::new(alloc)?;
     let mut wrong = String::new(alloc);
-    if !put_program(alloc, &mut lab)? {
-        wrong.push_str("the program isn't stopped")?;
-    }
+    let lab = lab_with_program(alloc, &mut wrong)?;
     put_before(&lab, &mut wrong)?;
     put_bytes(alloc, &lab, &mut wrong)?;
     put_labels(alloc, &lab, &mut wrong)?;
