@@ -75,7 +75,7 @@ send 3 control debug_request {"type":"request","seq":1,"command":"variables","ar
 send 3 control debug_request {"type":"request","seq":1,"command":"disassemble","arguments":{"memoryReference":"0x0000","instructionCount":2}}
 send 3 control debug_request {"type":"request","seq":1,"command":"disassemble","arguments":{"memoryReference":"0","instructionCount":2}}
 send 3 control debug_request {"type":"request","seq":1,"command":"source","arguments":{"source":{"path":"/tmp/i8080_lab/2513983605.asm"}}}
-send 3 control debug_request {"type":"request","seq":1,"command":"source","arguments":{"source":{"path":"none"}}}
+send 3 control debug_request {"type":"request","seq":1,"command":"source","arguments":{"source":{"path":"n"}}}
 send 3 control debug_request {"type":"request","seq":1,"command":"debugInfo"}
 send 3 control debug_request {"type":"request","seq":1,"command":"inspectVariables"}
 send 3 control debug_request {"type":"request","seq":1,"command":"setVariable","arguments":{"variablesReference":1,"name":"A","value":"5AH"}}
