@@ -42,6 +42,8 @@ def definitions():
 
 
 def definition(schema):
+    if hasattr(schema, "VALID_VALUES"):
+        return {"enum": sorted(schema.VALID_VALUES)}
     parameters = inspect.signature(schema.__init__).parameters.values()
     needed = {one.name for one in parameters if one.default is one.empty} - {"self", "kwargs"}
     # These two have a default in the class of a message.

@@ -28,8 +28,8 @@ PROGRAMS = {
 
 COMMANDS = (
     "initialize", "launch", "configurationDone", "restart", "terminate", "setBreakpoints", "setFunctionBreakpoints",
-    "breakpointLocations", "setExceptionBreakpoints", "loadedSources",
-    "threads", "stackTrace", "scopes", "variables", "setVariable", "continue", "next",
+    "setDataBreakpoints", "setDataBreakpoints", "dataBreakpointInfo", "breakpointLocations", "setExceptionBreakpoints",
+    "loadedSources", "threads", "stackTrace", "scopes", "variables", "setVariable", "continue", "next",
     "stepIn", "stepOut", "stepBack", "reverseContinue", "pause", "source", "evaluate", "readMemory", "writeMemory", "disassemble",
     "attach", "boardSwitches", "boardPress", "boardType", "boardReset", "boardAliases", "dumpCell", "debugInfo",
     "inspectVariables", "nothing", "",
@@ -47,6 +47,8 @@ OPTIONS = (
     {"logMessage": "{A} {HL:x}"}, {"logMessage": "{1/0}", "condition": "A AND 1"}, {"logMessage": "{A"},
     {"logMessage": "x" * 1024}, {"logMessage": "{" * 100_000}, {"logMessage": "\ud83d\ude00{M}"}, {"logMessage": None, "condition": []},
 )
+
+DATA_IDS = ("A", "L", "HL", "SP", "PC", "0000:16", "0004:1", "FFFE:2", "FFFF:2", "010B:0", "x", "")
 
 # Values to replace any argument.
 VALUES = (
@@ -78,14 +80,16 @@ def likely(folder, chance):
     return {
         "program": path, "stopOnEntry": chance.random() < 0.5, "noDebug": chance.random() < 0.2, "aliases": chance.random() < 0.3,
         "switches": chance.randrange(256), "source": {"path": path}, "frameId": chance.randrange(3), "levels": chance.randrange(80),
-        "breakpoints": [{"line": chance.randrange(16), "name": "START"} | chance.choice(OPTIONS) for _ in range(chance.randrange(4))],
+        "breakpoints": [{"line": chance.randrange(16), "name": "START", "dataId": chance.choice(DATA_IDS)} | chance.choice(OPTIONS)
+                        for _ in range(chance.randrange(4))],
         "variablesReference": chance.randrange(7), "start": chance.randrange(70_000), "count": chance.randrange(70_000),
-        "name": chance.choice(("A", "SP", "0100", "x")), "granularity": chance.choice(("instruction", "line")),
+        "name": chance.choice(("A", "SP", "0100", "x", "HL+1", "1/0")), "granularity": chance.choice(("instruction", "line")),
         "value": chance.choice(("5", "0FFH", "65536", 7, "")), "expression": chance.choice(EXPRESSIONS),
         "context": chance.choice(("repl", "hover", "watch")), "memoryReference": f"0x{chance.randrange(65_536):04x}",
         "offset": chance.choice((0, 1, -1, 65_536, -65_536)), "instructionCount": chance.choice((1, 10, 256, 257)),
         "instructionOffset": chance.choice((0, 5, -5, -65_536, 4_294_967_295)),
         "data": chance.choice(("AAEC", "AAEC" * 1_000, "?")), "threadId": 1, "vector": chance.randrange(9),
+        "bytes": chance.choice((0, 1, 2, 16, 17)), "asAddress": chance.random() < 0.5,
         "text": "hello\n", "code": "NOP\n", "filters": [], "line": chance.randrange(16), "endLine": chance.randrange(16),
     }
 

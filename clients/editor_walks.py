@@ -15,6 +15,9 @@ COMPARED = 0x400
 
 NOWHERE = "the run begins here"
 
+# The number of the first data breakpoint; the next ones follow.
+FIRST_DATA_ID = 256 * 1025 + 1
+
 
 class Walk:
     """A random session with a small random program."""
@@ -54,18 +57,20 @@ class Walk:
 
     def way(self):
         """What is done next: from the start mostly forward, from an end mostly back."""
-        kind = self.chance.randrange(20)
+        kind = self.chance.randrange(22)
         if kind < 3:
             return self.change
         if kind < 6:
             return self.set_breakpoints
-        if kind == 6:
+        if kind < 8:
+            return self.set_data_breakpoints
+        if kind == 8:
             return self.look
         if self.plain.held:
-            return self.forward if kind == 7 else self.back
+            return self.forward if kind == 9 else self.back
         if self.plain.board.count == 0:
-            return self.back if kind == 7 else self.forward
-        return self.forward if kind < 14 else self.back
+            return self.back if kind == 9 else self.forward
+        return self.forward if kind < 16 else self.back
 
     # ---- messages
 
@@ -161,6 +166,7 @@ class Walk:
             self.wait_for_board()
             return True
         self.stops({"halted": "step"}.get(reason, reason))
+        equal(self.events[-1][1].get("description"), {"halted": "halted", "data breakpoint": plain.change}.get(reason))
         if reason == "exception":
             equal(self.events[-2][1]["output"], self.events[-1][1]["text"] + "\n")
         return False
@@ -285,6 +291,29 @@ class Walk:
             if landing is not None:
                 self.plain.set_breakpoint(landing, holds, text)
 
+    def set_data_breakpoints(self):
+        """Up to three, mostly at bytes."""
+        points = [(*self.watched(), *self.condition()) for _ in range(self.chance.randint(0, 3))]
+        given = [{"dataId": data_id} | ({"condition": condition} if condition else {}) for data_id, _, condition, _ in points]
+        answer = self.do("setDataBreakpoints", breakpoints=given)["breakpoints"]
+        equal(answer, [{"id": FIRST_DATA_ID + number, "verified": True} for number in range(len(points))])
+        self.plain.data = [(places, holds or (lambda board: True)) for _, places, _, holds in points]
+
+    def watched(self):
+        """What a data breakpoint watches: its dataId, and its places. It is a register, a pair, or bytes among the data, the
+        counters of loops and the stack."""
+        kind, byte = self.chance.randrange(8), self.chance.randrange(8)
+        if kind < 2:
+            name = self.chance.choice(("A", "B", "C", "D", "E", "H", "L", "SP", "SP"))
+            return name, (name,)
+        if kind == 2:
+            name = self.chance.choice(("BC", "DE", "HL"))
+            return name, tuple(name)
+        counters = [at for at, label in self.program.labels.items() if label.startswith("N")]
+        address = self.chance.choice((plain_programs.DATA + byte, plain_programs.STACK - 2 - byte, *counters))
+        count = self.chance.choice((1, 1, 2, 3, 16))
+        return f"{address:04X}:{count}", tuple(range(address, address + count))
+
     def condition(self):
         """A condition's text and what it says of a board, or None twice."""
         byte, address = self.chance.randrange(256), plain_programs.DATA + self.chance.randrange(8)
@@ -323,7 +352,8 @@ class FarWalk:
     def __init__(self, editor, path, chance):
         self.editor, self.path, self.chance = editor, path, chance
         self.inputs, self.count, self.told = [], 0, 0
-        # What a breakpoint at the carry does: it stops the run, tells a message, or there is none.
+        # What a breakpoint at the carry does: it stops the run before it or, since the carry changes SP, behind it, tells a message,
+        # or there is none.
         self.at_carry = None
 
     def go(self, actions):
@@ -347,6 +377,12 @@ class FarWalk:
         if self.at_carry == "stops":
             equal(self.editor.stop(), "breakpoint")
             self.count = plain_far.carry_after(self.count)
+        elif self.at_carry == "changes":
+            self.count = plain_far.change_after(self.count)
+            sp = plain_far.board_at(self.inputs, self.count).sp
+            told = f"SP: {sp:04X}H, was {sp - 1:04X}H, by {plain_far.STARTS[plain_far.CARRIES]:04X}"
+            body = self.editor.events_to("stopped")[-1][1]
+            equal((body["reason"], body["description"]), ("data breakpoint", told))
         else:
             time.sleep(self.chance.random() * 0.03)
             events = self.editor.ask_amid("pause", threadId=1) + self.editor.events_to("stopped")
@@ -394,9 +430,12 @@ class FarWalk:
         self.told = self.count
 
     def set_breakpoint(self):
-        self.at_carry = self.chance.choice(("stops", "tells", None))
+        self.at_carry = self.chance.choice(("stops", "changes", "tells", None))
         point = {"line": plain_far.CARRY_LINE} | ({"logMessage": "{SP}"} if self.at_carry == "tells" else {})
-        self.editor.do("setBreakpoints", source={"path": self.path}, breakpoints=[point] if self.at_carry else [])
+        points = [point] if self.at_carry in ("stops", "tells") else []
+        self.editor.do("setBreakpoints", source={"path": self.path}, breakpoints=points)
+        data = [{"dataId": "SP"}] if self.at_carry == "changes" else []
+        self.editor.do("setDataBreakpoints", breakpoints=data)
 
 
 def equal(found, wanted):

@@ -117,6 +117,12 @@ class Board:
         else:
             self.r[code] = byte
 
+    def value(self, place):
+        """What a register holds, given by its name, or the byte at an address."""
+        if isinstance(place, int):
+            return self.memory[place]
+        return self.sp if place == "SP" else self.r[NAMES.index(place)]
+
     def hl(self):
         return self.r[H] << 8 | self.r[L]
 

@@ -14,6 +14,9 @@ class PlainDebugger:
         # Of each line with breakpoints that have conditions those conditions, each by what it says of a board; of each line with
         # log messages these, each by its condition and by its text on a board.
         self.conditions, self.messages = {}, {}
+        # Of each data breakpoint the places that it watches, as of `Board.value`, and its condition; what was told of the last
+        # change at which one stopped.
+        self.data, self.change = [], None
         # The step that it makes, if it makes one, with the count and the live routines where it went on; how it is held at its end.
         self.pending, self.resumed, self.live, self.held = None, 0, (), None
 
@@ -38,6 +41,7 @@ class PlainDebugger:
     def take_breakpoints(self, other):
         """Has those of another run."""
         self.breakpoints, self.conditions, self.messages = other.breakpoints, other.conditions, other.messages
+        self.data = other.data
 
     def set_breakpoint(self, line, holds, text):
         """Sets one, with a condition or None, and with a log message or None."""
@@ -53,6 +57,20 @@ class PlainDebugger:
 
     def is_at_condition(self, board):
         return self.begins(board) and any(it(board) for it in self.conditions.get(self.program.lines[board.pc], ()))
+
+    def watched(self, board):
+        """PC, and what each watched place holds."""
+        return board.pc, {place: board.value(place) for places, _ in self.data for place in places}
+
+    def change_since(self, before, board):
+        """What is told of the change at which a data breakpoint stops, if the board was so before its last step; None if none
+        stops."""
+        by, values = before
+        for places, holds in self.data:
+            changed = [it for it in places if board.value(it) != values[it]]
+            if changed and holds(board):
+                return change_text(changed[0], board.value(changed[0]), values[changed[0]], by)
+        return None
 
     def told_before_step(self, board):
         """What breakpoints tell before the next step: a line and a text for each message."""
@@ -70,15 +88,15 @@ class PlainDebugger:
     def go(self):
         """Goes on to where there is a reason to stop or to wait. Returns that, what is told of the console, and what breakpoints
         tell; None if it is far."""
-        board, heard, messages = self.board_at(self.board.count), None, []
+        board, heard, messages, before = self.board_at(self.board.count), None, [], None
         for _ in range(MOST_STEPS):
             if board.count == max(self.told, self.board.count):
                 heard = len(board.console)
-            # A condition is asked where a step has come to it, before what is done again there.
-            reason = self.reason(board, asks=board.count > self.board.count)
+            # A condition is asked where a step has come to it, and a change is one by a step, before what is done again there.
+            reason = self.reason(board, before)
             if board.count > self.board.count:
                 self.do_again(board)
-                reason = reason or self.reason(board, asks=False)
+                reason = reason or self.reason(board)
             reason = reason or self.end(board)
             if reason:
                 console = b"" if heard is None else bytes(board.console[heard:])
@@ -86,6 +104,7 @@ class PlainDebugger:
                 self.held = reason if reason in ("halted", "exception") else None
                 return reason, console, messages
             messages += self.told_before_step(board)
+            before = self.watched(board)
             board.step()
         return None
 
@@ -98,15 +117,19 @@ class PlainDebugger:
                 if board.sp > sp:
                     self.pending = None
 
-    def reason(self, board, asks):
+    def reason(self, board, before=None):
+        """Why it stops here. If a step has just led here, `before` is what was watched before it."""
         moved = board.count > self.resumed
         if board.is_halted and board.interrupts == OFF:
             return "halted"
+        self.change = self.change_since(before, board) if before else None
+        if self.change:
+            return "data breakpoint"
         if moved and self.is_at_breakpoint(board):
             return "breakpoint"
         if moved and self.pending and self.is_complete(board, *self.pending):
             return "step"
-        if asks and moved and self.is_at_condition(board):
+        if before and self.is_at_condition(board):
             return "breakpoint"
         return None
 
@@ -160,3 +183,9 @@ class PlainDebugger:
         newest = self.board.frames[::-1]
         names = [self.program.labels.get(it.target, f"{it.target:04X}H") for it in newest] + ["main"]
         return list(zip(names, [self.program.lines.get(at, 0) for at in (self.board.pc, *(it.site for it in newest))]))
+
+
+def change_text(place, after, before, by):
+    """What is told of a change: the place, its new and its old value, and where the instruction is."""
+    name, digits = (f"{place:04X}", 2) if isinstance(place, int) else (place, 4 if place == "SP" else 2)
+    return f"{name}: {after:0{digits}X}H, was {before:0{digits}X}H, by {by:04X}"

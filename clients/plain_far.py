@@ -106,3 +106,8 @@ def carry_after(count):
     rounds = rounds_up_to(count) | 65_535
     found = steps_of(rounds) + CARRIES
     return found if found > count else steps_of(rounds + 65_536) + CARRIES
+
+
+def change_after(count):
+    """The next count at which the step before has executed line 16."""
+    return carry_after(count - 1) + 1

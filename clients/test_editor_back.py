@@ -638,6 +638,7 @@ class Looks(Going):
             ("disassemble", {"memoryReference": "0x0100", "instructionCount": 20, "instructionOffset": -5}),
             ("exceptionInfo", {"threadId": 1}), ("setBreakpoints", {"source": {"path": path}, "breakpoints": []}),
             ("setFunctionBreakpoints", {"breakpoints": []}), ("setExceptionBreakpoints", {"filters": ["halt"]}),
+            ("setDataBreakpoints", {"breakpoints": []}), ("dataBreakpointInfo", {"name": "SHOW"}),
             ("evaluate", {"expression": "back 0", "context": "repl"}), ("evaluate", {"expression": "A", "context": "repl"}),
         ):
             editor.ask(command, **arguments)
@@ -709,7 +710,7 @@ class Long(Going):
     def test_a_look_amid_a_search(self):
         looks = (
             ("threads", {}), ("stackTrace", {"threadId": 1}), ("scopes", {"frameId": 1}), ("variables", {"variablesReference": 1}),
-            ("evaluate", {"expression": "PC", "context": "hover"}), ("loadedSources", {}),
+            ("evaluate", {"expression": "PC", "context": "hover"}), ("loadedSources", {}), ("dataBreakpointInfo", {"name": "PC+1"}),
             ("readMemory", {"memoryReference": "0x0000", "count": 65_536}),
             ("disassemble", {"memoryReference": "0x0000", "instructionCount": 16, "instructionOffset": 0}),
             ("source", {"sourceReference": 0, "source": {"path": self.path()}}),
@@ -728,6 +729,7 @@ class Long(Going):
             *WAYS, *(("evaluate", {"expression": words, "context": "repl"}) for words in ("A", "type x", "press 1", "switches 1")),
             ("setBreakpoints", {"source": {"path": self.path()}, "breakpoints": [{"line": 2}]}),
             ("setFunctionBreakpoints", {"breakpoints": []}), ("setExceptionBreakpoints", {"filters": []}),
+            ("setDataBreakpoints", {"breakpoints": []}),
             ("setVariable", {"variablesReference": 1, "name": "A", "value": "1"}), ("goto", {"threadId": 1, "targetId": 0}),
             ("writeMemory", {"memoryReference": "0x0000", "data": "AA=="}), ("restart", {}), ("launch", {"program": self.path()}),
             ("configurationDone", {}), ("boardType", {"text": "x"}), ("boardPress", {"vector": 1}), ("boardSwitches", {"value": 1}),

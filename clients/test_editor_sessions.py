@@ -73,10 +73,10 @@ START:  MVI A,'!'
 CAPABILITIES = {
     **dict.fromkeys((
         "supportsBreakpointLocationsRequest", "supportsConditionalBreakpoints", "supportsConfigurationDoneRequest",
-        "supportsDisassembleRequest", "supportsEvaluateForHovers", "supportsExceptionInfoRequest",
-        "supportsFunctionBreakpoints", "supportsGotoTargetsRequest", "supportsLoadedSourcesRequest", "supportsLogPoints",
-        "supportsReadMemoryRequest", "supportsRestartRequest", "supportsSetVariable",
-        "supportsStepBack", "supportsSteppingGranularity", "supportsTerminateRequest", "supportsWriteMemoryRequest"), True),
+        "supportsDataBreakpointBytes", "supportsDataBreakpoints", "supportsDisassembleRequest", "supportsEvaluateForHovers",
+        "supportsExceptionInfoRequest", "supportsFunctionBreakpoints", "supportsGotoTargetsRequest", "supportsLoadedSourcesRequest",
+        "supportsLogPoints", "supportsReadMemoryRequest", "supportsRestartRequest", "supportsSetVariable", "supportsStepBack",
+        "supportsSteppingGranularity", "supportsTerminateRequest", "supportsWriteMemoryRequest"), True),
     "exceptionBreakpointFilters": [
         {"filter": "undefined", "label": "Undefined opcodes", "default": True},
         {"filter": "halt", "label": "HLT", "default": False}]}
@@ -95,6 +95,7 @@ CONVERSATION = (
      '{"body":{"exceptionBreakpointFilters":[{"default":true,"filter":"undefined","label":"Undefined opcodes"},'
      '{"default":false,"filter":"halt","label":"HLT"}],"supportsBreakpointLocationsRequest":true,'
      '"supportsConditionalBreakpoints":true,"supportsConfigurationDoneRequest":true,'
+     '"supportsDataBreakpointBytes":true,"supportsDataBreakpoints":true,'
      '"supportsDisassembleRequest":true,"supportsEvaluateForHovers":true,"supportsExceptionInfoRequest":true,'
      '"supportsFunctionBreakpoints":true,"supportsGotoTargetsRequest":true,"supportsLoadedSourcesRequest":true,'
      '"supportsLogPoints":true,"supportsReadMemoryRequest":true,"supportsRestartRequest":true,"supportsSetVariable":true,'
