@@ -88,6 +88,17 @@ program_board p kept b =
     let path = p.launch.program in
     armed_with p (number_of path kept.lists) (lines_at path kept.lists) (take 256 kept.functions) b
 
+-- they have the number of a source, and are as few as a request may have
+abbrev pub AreFew : ProgramBreakpoints → Type 0
+AreFew points =
+    (points.number ≤ 1025) × (length points.lines.now ≤ 256) × (length points.functions.now ≤ 256)
+
+-- where they are on the board
+abbrev pub placed_on : Board → ProgramBreakpoints → PlacedLists
+placed_on b points =
+    let on_lines = lines_on b points.number points.lines.now in
+    record { lines = on_lines; labels = labels_behind b on_lines points.functions.now }
+
 -- what is watched; a run without a debugger watches nothing
 abbrev pub watches_in : Program → List DataBreakpoint → Board → List ConditionalBreakpoint
 watches_in p on_data b = if p.launch.is_debugged then watches_on b on_data else []
@@ -104,17 +115,6 @@ abbrev pub conditional_with : Program → ℕ → List LineBreakpoint → List F
     → List ConditionalBreakpoint
 conditional_with p number lines functions b =
     let on_lines = lines_on b number lines in conditional_in p b on_lines (labels_behind b on_lines functions)
-
--- they have the number of a source, and are as few as a request may have
-abbrev pub AreFew : ProgramBreakpoints → Type 0
-AreFew points =
-    (points.number ≤ 1025) × (length points.lines.now ≤ 256) × (length points.functions.now ≤ 256)
-
--- where they are on the board
-abbrev pub placed_on : Board → ProgramBreakpoints → PlacedLists
-placed_on b points =
-    let on_lines = lines_on b points.number points.lines.now in
-    record { lines = on_lines; labels = labels_behind b on_lines points.functions.now }
 
 -- the same, and what is watched
 abbrev pub conditional_of : Program → ProgramBreakpoints → Board → List ConditionalBreakpoint
