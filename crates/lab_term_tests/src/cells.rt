@@ -1,6 +1,7 @@
 //! Cells run over memory, against the messages of a scripted kernel.
 ghost use Rattle.std.specs.Prelude.{◌≡◌, false};
 
+use crate::messages::frames;
 use base_streams::memory::{Sink, Source};
 use base_text::sequence::{Bytes, Frames};
 use jup_wire::message::WireFault;
@@ -56,13 +57,6 @@ const CELL: Cell<'static> = Cell {
     unix_seconds: 0,
 };
 
-fn push_texts(alloc: Global, frames: &mut Frames, texts: &[&str]) -> Result<(), AllocError> {
-    for text in texts {
-        frames.push(Bytes::copy_of(alloc, text.as_bytes())?)?;
-    }
-    Ok(())
-}
-
 fn push_copies(alloc: Global, frames: &mut Frames, others: &[Bytes]) -> Result<(), AllocError> {
     for frame in others {
         frames.push(Bytes::copy_of(alloc, frame.as_slice())?)?;
@@ -76,10 +70,7 @@ fn signed_frames(alloc: Global, told: Told) -> Result<Frames, AllocError> {
         "{{\"msg_id\":\"k_1\",\"msg_type\":\"{}\",\"session\":\"k\"}}",
         told.0
     )?;
-    let mut frames = Frames::new(alloc);
-    let texts = [header.as_str(), told.1, "{}", told.2];
-    push_texts(alloc, &mut frames, &texts)?;
-    Ok(frames)
+    frames(alloc, &[header.as_str(), told.1, "{}", told.2])
 }
 
 // The bytes of a message of some frames; nothing if there are none.
@@ -94,11 +85,9 @@ fn push_message(alloc: Global, bytes: &mut Vec<u8>, frames: &Frames) -> Result<(
 fn push_told(alloc: Global, bytes: &mut Vec<u8>, told: Told, key: &[u8]) -> Result<(), AllocError> {
     let signed = signed_frames(alloc, told)?;
     let signature = sign(alloc, key, signed.as_slice())?;
-    let mut frames = Frames::new(alloc);
-    let texts = [told.0, "<IDS|MSG>", signature.as_str()];
-    push_texts(alloc, &mut frames, &texts)?;
-    push_copies(alloc, &mut frames, signed.as_slice())?;
-    push_message(alloc, bytes, &frames)
+    let mut all = frames(alloc, &[told.0, "<IDS|MSG>", signature.as_str()])?;
+    push_copies(alloc, &mut all, signed.as_slice())?;
+    push_message(alloc, bytes, &all)
 }
 
 // What a kernel writes on a connection.
@@ -220,11 +209,10 @@ fn cells(rt: HostRuntime) {
 
 // The handshake and the request.
 fn asked_bytes(alloc: Global) -> Result<Vec<u8>, AllocError> {
-    let mut frames = Frames::new(alloc);
     let texts = ["<IDS|MSG>", SIGNATURE, HEADER, "{}", "{}", CONTENT];
-    push_texts(alloc, &mut frames, &texts)?;
+    let all = frames(alloc, &texts)?;
     let mut asked = stream_of(alloc, Role::Dealer, &[], KEY)?;
-    push_message(alloc, &mut asked, &frames)?;
+    push_message(alloc, &mut asked, &all)?;
     Ok(asked)
 }
 

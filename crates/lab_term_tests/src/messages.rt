@@ -27,7 +27,8 @@ const IDLE: &str = "{\"execution_state\":\"idle\"}";
 // The signature under the key `secret` of STATUS, `{}`, `{}` and IDLE, made by another program.
 const STATUS_SEAL: &str = "65eb76a94efee1c6b8e2e5f846376272ef9a69741f9d7df9e6d86e4aac7ab9cb";
 
-fn frames(alloc: Global, texts: &[&str]) -> Result<Frames, AllocError> {
+/// Frames of these texts.
+pub(crate) fn frames(alloc: Global, texts: &[&str]) -> Result<Frames, AllocError> {
     let mut all = Frames::new(alloc);
     for text in texts {
         all.push(Bytes::copy_of(alloc, text.as_bytes())?)?;
