@@ -1,3 +1,5 @@
 pub mod PlaceLemmas
 pub mod InfoLemmas
+pub mod ToldLemmas
 pub mod WatchLemmas
+pub mod BreakLemmas

@@ -1,42 +1,31 @@
 -- Which breakpoints on data are watched.
-use Rattle.std.proofs.Common.{◌≡◌, ◌<◌, ◌+◌, ◌⊎◌, ℕ, zero, suc, List, [], ◌∷◌, map, inl, inr}
-use Rattle.std.proofs.Common.{refl, sym, ap, Bool, true, false, if◌then◌else◌, Option, Some, None, Result, Ok}
-use Rattle.std.proofs.Common.{Err, arith}
+use Rattle.std.proofs.Common.{◌≡◌, ◌<◌, ◌+◌, ℕ, zero, suc, List, [], ◌∷◌, inl, inr}
+use Rattle.std.proofs.Common.{refl, sym, ap, Bool, true, false, if◌then◌else◌, Option, Some, None, Ok, arith}
 use Rattle.std.proofs.lemmas.Bool.{ltb-true, lt-ltb}
 use Rattle.std.proofs.lemmas.List.Elements.{Contains-append_left, Contains-append_right}
-use Rattle.std.proofs.lemmas.List.Elements.{Contains-append_cases, Contains-push_cases}
+use Rattle.std.proofs.lemmas.List.Elements.{Contains-append_cases}
 use Rattle.std.specs.Prelude.{take, slice_get, nat_lt, is_none, codes}
 use Rattle.std.specs.List.{Contains, filter_map, flat_map}
-use Rattle.base_text.specs.Bytes.{Text}
-use Rattle.asm_syntax.specs.Outcome.{Fault, ◌>>=◌}
 use Rattle.lab_shown.specs.declared.place.Place.{Place}
 use Rattle.lab_core.specs.Board.{Board}
 use Rattle.dap_expr.specs.declared.expression.Expression.{Expression}
-use Rattle.dap_expr.specs.Expressions.{expression_of}
 use Rattle.dap_slice.specs.declared.conditions.ConditionalBreakpoint.{ConditionalBreakpoint}
+use Rattle.dap_slice.specs.declared.conditions.Trigger.TheVariants.{Change}
 use Rattle.dap_messages.specs.declared.message.BreakpointNote.{BreakpointNote}
 use Rattle.dap_messages.specs.declared.message.BreakpointNote.TheVariants.{Wrong, NotSupported, TooManyData}
 use Rattle.dap_messages.specs.declared.message.PlacedBreakpoint.{PlacedBreakpoint}
 use Rattle.dap_editor.specs.declared.request.DataBreakpoint.{DataBreakpoint}
 use Rattle.dap_points.specs.declared.placed.CheckedData.{CheckedData}
-use Rattle.dap_points.specs.Placed.{id_at, unmet_at, watched_at, data_point_unless, data_point, data_points}
-use Rattle.dap_lines.specs.Conditions.{condition_objection, expression_objection, condition_read}
+use Rattle.dap_points.specs.Placed.{id_at, unmet_at, met_where, data_point_unless, data_point}
+use Rattle.dap_lines.specs.Conditions.{condition_objection}
 use Rattle.dap_data.specs.declared.place.DataPlace.{DataPlace}
 use Rattle.dap_data.specs.Places.{data_named, places_of}
-use Rattle.dap_data.specs.Points.{objection_at, data_objection, checked_on, watch_at, watch_with}
+use Rattle.dap_data.specs.Points.{objection_at, data_objection, checked_on, points_on, watch_at, stop_with}
 use Rattle.dap_data.specs.Points.{watches_of, watches_on}
-use Rattle.dap_data.specs.Laws.{IsToldAs, Watches, AreAllWatched, IsOfVerified}
+use Rattle.dap_data.specs.Laws.{IsToldAs, HoldsOfVerified, Watches, AreAllWatched, IsWatchOf}
+use Rattle.dap_data.proofs.ToldLemmas.{in_cases, point_at, condition_if}
 
 -- ---- elements of lists
-
-in_cases : {X : Type 0} (x : X) (xs : List X) (y : X) → Contains (x ∷ xs) y → (x ≡ y) ⊎ Contains xs y
-in_cases x xs y has =
-    elim (Contains-append_cases (x ∷ []) xs y has) [
-      | inl alone ↦
-          elim (Contains-push_cases [] x y alone)
-          [ inl none ↦ absurd (omega (arith, none.1)) | inr same ↦ inl same ]
-      | inr later ↦ inr later
-    ]
 
 -- of one of the first n lists, all elements are among those of all
 in_first : {X A : Type 0} (f : X → List A) (n i : ℕ) (xs : List X) (x : X) (y : A) → slice_get xs i ≡ Some x
@@ -77,19 +66,8 @@ from_first f (suc n) (z ∷ zs) y has =
 
 -- ---- how an editor is told of one
 
-point_at : (b : Board) (ds : List DataBreakpoint) (k i : ℕ) (d : DataBreakpoint) → slice_get ds i ≡ Some d
-    → slice_get (data_points k (map (checked_on b) ds)) i ≡ Some (data_point (k + i) (checked_on b d))
-point_at b [] k i d at = absurd cc
-point_at b (x ∷ xs) k zero d at =
-    let same : x ≡ d = cc in
-    let here : k + 0 ≡ k = omega arith in
-    rw (same, here) refl
-point_at b (x ∷ xs) k (suc i) d at =
-    let there : k + suc i ≡ (k + 1) + i = omega arith in
-    rw there (point_at b xs (k + 1) i d at)
-
 few_if : (few : Bool) (n : ℕ) (c : CheckedData)
-    → (if few then watched_at (id_at 1025 n) c.condition
+    → (if few then met_where (id_at 1025 n) None c.condition
     else unmet_at (id_at 1025 n) None TooManyData).is_verified ≡ true → few ≡ true
 few_if true n c is = refl
 few_if false n c is = absurd cc
@@ -115,16 +93,6 @@ place_if b d true false found none = absurd cc
 place_if b d true true None none = absurd cc
 place_if b d true true (Some place) none = (place, refl, none)
 
-expression_if : (b : Board) (read : Result Expression Fault) → expression_objection b read ≡ None
-    → (e : Option Expression) × ((read >>= λ condition. Ok (Some condition)) ≡ Ok e)
-expression_if b (Err fault) none = absurd cc
-expression_if b (Ok e) none = (Some e, refl)
-
-condition_if : (b : Board) (condition : Option Text) → condition_objection b condition ≡ None
-    → (e : Option Expression) × (condition_read condition ≡ Ok e)
-condition_if b None none = (None, refl)
-condition_if b (Some text) none = expression_if b (expression_of text) none
-
 what_if : (b : Board) (d : DataBreakpoint) → data_objection b d ≡ None
     → (place : DataPlace) × (e : Option Expression) × Watches d place e
 what_if b d none =
@@ -135,7 +103,7 @@ what_if b d none =
 -- it is watched at each of its places, and nowhere else
 
 watches_under : Option Expression → List Place → List ConditionalBreakpoint
-watches_under e places = filter_map (λ place. watch_with place (Ok e)) places
+watches_under e places = filter_map (λ place. stop_with (Change place) (Ok e)) places
 
 each_watched : (e : Option Expression) (places : List Place) (at : Place) → Contains places at
     → Contains (watches_under e places) (watch_at at e)
@@ -174,9 +142,9 @@ none_if (Some why) watches w has = absurd (omega (arith, has.1))
 -- ---- the two laws
 
 pub verified_is_watched : (b : Board) (ds : List DataBreakpoint) (d : DataBreakpoint) (p : PlacedBreakpoint)
-    → IsToldAs b ds d p → p.is_verified ≡ true → AreAllWatched (watches_on b ds) d
+    → IsToldAs ds (points_on b ds) d p → p.is_verified ≡ true → AreAllWatched (watches_on b ds) d
 verified_is_watched b ds d p told is =
-    let at = point_at b ds 0 told.index d told.of_request in
+    let at = point_at data_point (checked_on b) ds 0 told.index d told.of_request in
     let same : data_point (0 + told.index) (checked_on b d) ≡ p = cc in
     let verified : (data_point (0 + told.index) (checked_on b d)).is_verified ≡ true = rw same is in
     let fine = verified_if (data_objection b d) (0 + told.index) (checked_on b d) verified in
@@ -191,7 +159,7 @@ verified_is_watched b ds d p told is =
     )
 
 pub others_are_not : (b : Board) (ds : List DataBreakpoint) (w : ConditionalBreakpoint)
-    → Contains (watches_on b ds) w → IsOfVerified b ds w
+    → Contains (watches_on b ds) w → HoldsOfVerified ds (points_on b ds) (IsWatchOf w)
 others_are_not b ds w has =
     let one = from_first (watches_of b) 16 ds w has in
     let d = one.item in
@@ -202,9 +170,9 @@ others_are_not b ds w has =
     let p = data_point (0 + one.index) (checked_on b d) in
     let verified = is_verified_at (data_objection b d) (0 + one.index) (checked_on b d) none
     (omega (arith, one.less)) in
-    let told : IsToldAs b ds d p = record {
+    let told : IsToldAs ds (points_on b ds) d p = record {
       index = one.index;
       of_request = one.at;
-      of_answer = point_at b ds 0 one.index d one.at;
+      of_answer = point_at data_point (checked_on b) ds 0 one.index d one.at;
     } in
     (d, p, told, verified, (what.0, what.1, here.0, what.2, here.1, here.2))

@@ -1,4 +1,5 @@
 pub mod Places
 pub mod Info
 pub mod Points
+pub mod Instructions
 pub mod Laws

@@ -9,6 +9,7 @@ use Rattle.lab_shown.specs.declared.place.Place.{Place}
 use Rattle.lab_core.specs.Board.{Board}
 use Rattle.dap_expr.specs.declared.expression.Expression.{Expression}
 use Rattle.dap_slice.specs.declared.conditions.ConditionalBreakpoint.{ConditionalBreakpoint}
+use Rattle.dap_slice.specs.declared.conditions.Trigger.{Trigger}
 use Rattle.dap_slice.specs.declared.conditions.Trigger.TheVariants.{Change}
 use Rattle.dap_messages.specs.declared.message.BreakpointNote.{BreakpointNote}
 use Rattle.dap_messages.specs.declared.message.BreakpointNote.TheVariants.{Wrong, NotSupported}
@@ -45,20 +46,24 @@ points_on b ds = placed.data_points 0 (map (checked_on b) ds)
 
 -- ---- where they stop a run
 
--- behind an instruction that changes the place, if the condition is true there
-abbrev pub watch_at : Place → Option Expression → ConditionalBreakpoint
-watch_at place condition = record { trigger = Change place; condition = condition; log = None }
+-- if the condition is true there
+abbrev pub stop_at : Trigger → Option Expression → ConditionalBreakpoint
+stop_at trigger condition = record { trigger = trigger; condition = condition; log = None }
 
 -- unless its condition has a fault
-abbrev pub watch_with : Place → Result (Option Expression) Fault → Option ConditionalBreakpoint
-watch_with place (Ok condition) = Some (watch_at place condition)
-watch_with place (Err fault) = None
+abbrev pub stop_with : Trigger → Result (Option Expression) Fault → Option ConditionalBreakpoint
+stop_with trigger (Ok condition) = Some (stop_at trigger condition)
+stop_with trigger (Err fault) = None
+
+-- behind an instruction that changes the place
+abbrev pub watch_at : Place → Option Expression → ConditionalBreakpoint
+watch_at place condition = stop_at (Change place) condition
 
 -- at each place of the data
 abbrev pub watches_at : Option Text → Option DataPlace → List ConditionalBreakpoint
 watches_at condition None = []
 watches_at condition (Some d) =
-    filter_map (λ place. watch_with place (condition_read condition)) (places_of d)
+    filter_map (λ place. stop_with (Change place) (condition_read condition)) (places_of d)
 
 -- none where there is something to object
 abbrev pub watches_of : Board → DataBreakpoint → List ConditionalBreakpoint

@@ -6,11 +6,14 @@ ghost use Rattle.dap_slice.specs.declared.conditions.ConditionalBreakpoint.{Cond
 ghost use Rattle.dap_messages.specs.declared.message.PlacedBreakpoint.{PlacedBreakpoint};
 ghost use Rattle.dap_editor.specs.declared.request.DataQuery.{DataQuery};
 ghost use Rattle.dap_editor.specs.declared.request.DataBreakpoint.{DataBreakpoint};
+ghost use Rattle.dap_editor.specs.declared.request.InstructionBreakpoint.{InstructionBreakpoint};
 ghost use Rattle.dap_data.specs.declared.place.DataPlace.TheVariants.{Bytes};
 ghost use Rattle.dap_data.specs.Places.{registers, pairs, id_of, data_named};
 ghost use Rattle.dap_data.specs.Info.{data_info};
-ghost use Rattle.dap_data.specs.Points.{watches_on};
-ghost use Rattle.dap_data.specs.Laws.{SetsDescribed, IsToldAs, AreAllWatched, IsOfVerified};
+ghost use Rattle.dap_data.specs.Points.{points_on, watches_on};
+ghost use Rattle.dap_data.specs.Instructions.{instructions_on, breaks_on};
+ghost use Rattle.dap_data.specs.Laws.{SetsDescribed, IsToldAs, HoldsOfVerified, AreAllWatched, IsWatchOf};
+ghost use Rattle.dap_data.specs.Laws.{HoldsOfEachVerified, IsMetAsTold, IsBreakOf};
 
 /// Each register, each pair, and 1 to 16 bytes that are in memory are set by their text.
 pub fn ids_are_read()
@@ -30,7 +33,16 @@ pub fn told_data_is_set()
 /// condition; and only such breakpoints are watched.
 pub fn verified_is_watched()
     ensures verified { (b : Board) (ds : List DataBreakpoint) (d : DataBreakpoint) (p : PlacedBreakpoint)
-        → IsToldAs b ds d p → p.is_verified ≡ true → AreAllWatched (watches_on b ds) d }
+        → IsToldAs ds (points_on b ds) d p → p.is_verified ≡ true → AreAllWatched (watches_on b ds) d }
     ensures others { (b : Board) (ds : List DataBreakpoint) (w : ConditionalBreakpoint)
-        → Contains (watches_on b ds) w → IsOfVerified b ds w }
+        → Contains (watches_on b ds) w → HoldsOfVerified ds (points_on b ds) (IsWatchOf w) }
+{}
+
+/// A breakpoint at an instruction of which an editor is told that it is verified is met at the address that
+/// the editor is told, under its condition; and only such breakpoints are met.
+pub fn verified_is_met_at()
+    ensures verified { (b : Board) (asked : List InstructionBreakpoint)
+        → HoldsOfEachVerified asked (instructions_on b asked) (IsMetAsTold (breaks_on b asked)) }
+    ensures others { (b : Board) (asked : List InstructionBreakpoint) (w : ConditionalBreakpoint)
+        → Contains (breaks_on b asked) w → HoldsOfVerified asked (instructions_on b asked) (IsBreakOf w) }
 {}

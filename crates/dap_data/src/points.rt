@@ -4,9 +4,10 @@ ghost use Rattle.std.specs.Prelude.{option_to_list};
 ghost use Rattle.std.specs.List.{filter_map, flat_map};
 ghost use Rattle.lab_core.specs.Board.{Board};
 ghost use Rattle.lab_core.specs.Labs.{RepresentsBoard};
+ghost use Rattle.dap_slice.specs.declared.conditions.Trigger.TheVariants.{Change};
 ghost use Rattle.dap_lines.specs.Conditions.{condition_read};
 ghost use Rattle.dap_data.specs.Places.{IsInMemory, places_of};
-ghost use Rattle.dap_data.specs.Points.{unknown_note, data_objection, checked_on, points_on, watch_with};
+ghost use Rattle.dap_data.specs.Points.{unknown_note, data_objection, checked_on, points_on, stop_with};
 ghost use Rattle.dap_data.specs.Points.{watches_at, watches_of, watches_on};
 
 use crate::place::DataPlace;
@@ -105,19 +106,19 @@ pub fn data_points(
 
 // ---- where they stop a run
 
-// Adds a place and its condition, unless that has a fault.
-fn push_watch(
+// Adds where a run stops and a condition, unless that has a fault.
+pub(crate) fn push_stop(
     alloc: Global,
     points: &mut ConditionalBreakpoints,
     condition: &Option<Text>,
-    place: Place,
+    trigger: Trigger,
 ) -> Result<(), AllocError>
     ensures { OnOk result (points.new
-        ≡ points.old ++ option_to_list (watch_with place (condition_read condition.now))) }
+        ≡ points.old ++ option_to_list (stop_with trigger (condition_read condition.now))) }
 {
     match condition_read(alloc, condition) {
         Ok(condition) => points.push(ConditionalBreakpoint {
-            trigger: Trigger::Change(place),
+            trigger,
             condition,
             log: None,
         }),
@@ -133,11 +134,11 @@ fn push_places(
     places: &[Place],
 ) -> Result<(), AllocError>
     ensures { OnOk result (points.new ≡ points.old
-        ++ filter_map (λ place. watch_with place (condition_read condition.now)) places.now) }
+        ++ filter_map (λ place. stop_with (Change place) (condition_read condition.now)) places.now) }
 {
     let mut left = places;
     while let Some((place, later)) = left.split_first() {
-        push_watch(alloc, points, condition, *place)?;
+        push_stop(alloc, points, condition, Trigger::Change(*place))?;
         left = later;
     }
     Ok(())

@@ -5,11 +5,10 @@ use Rattle.std.proofs.Common.{is_some}
 use Rattle.std.proofs.Common.{◌||◌}
 use Rattle.std.proofs.lemmas.List.{append-nil, map-append}
 use Rattle.std.proofs.lemmas.Grind.{flat_map-append}
-use Rattle.base_text.specs.Bytes.{Bytes, Text}
+use Rattle.base_text.specs.Bytes.{Bytes}
 use Rattle.base_streams.specs.States.{OutletState}
 use Rattle.base_streams.specs.Told.{Told, ToldPrefix}
 use Rattle.base_streams.proofs.TellLemmas.{told_on}
-use Rattle.dap_launch.specs.declared.file.FileText.{FileText}
 use Rattle.dap_history.specs.declared.goal.Goal.{Goal}
 use Rattle.dap_session.specs.States.{wants_slice}
 use Rattle.dap_record.specs.Recordings.{RecordedState, recorded_before_requests}
@@ -21,13 +20,13 @@ use Rattle.dap_debugger.specs.declared.incoming.Incoming.TheVariants as incoming
 use Rattle.dap_debugger.specs.declared.incoming.StreamEnd.{StreamEnd}
 use Rattle.dap_debugger.specs.declared.conversation.ConversationEnd.{ConversationEnd}
 use Rattle.dap_debugger.specs.declared.conversation.ConversationEnd.TheVariants as end
-use Rattle.dap_debugger.specs.Requests.{request_of}
 use Rattle.dap_messages.specs.declared.message.Message.{Message}
 use Rattle.dap_debugger.specs.Sending.{sent_bytes}
 use Rattle.dap_debugger.specs.Given.{Gave}
+use Rattle.dap_debugger.specs.KnownFiles.{KnownFiles}
 use Rattle.dap_debugger.specs.Debuggers.{DebuggerState, Past, PastSlice}
 use Rattle.dap_debugger.specs.Conversations.{Exchange, answered, idle, incoming_of, inputs_in, inputs_of}
-use Rattle.dap_debugger.specs.Conversations.{session_after}
+use Rattle.dap_debugger.specs.Conversations.{asked_in, session_after}
 use Rattle.dap_debugger.specs.Conversations.{bytes_for, FindsIn, FindsFiles, Ports, ports, Converses}
 use Rattle.dap_debugger.specs.Conversations.{HasConversed, HasAnswered, Answers, Writes, WritesPrefix}
 use Rattle.dap_debugger.specs.Conversations.{FailsToWrite}
@@ -113,76 +112,78 @@ past_whole d inputs bytes p sent =
 
 -- ---- an exchange more
 
-finds_last : (may_find : Text → FileText → Type 0) (exchanges before less after : List Exchange)
-    (x y : Exchange) → FindsFiles may_find exchanges → FindsIn may_find x (session_after exchanges)
-    → exchanges ≡ before ++ less → y ∷ after ≡ less ++ x ∷ [] → FindsIn may_find y (session_after before)
-finds_last may_find exchanges before [] after x y all here front last =
+finds_last : (known : KnownFiles) (exchanges before less after : List Exchange)
+    (x y : Exchange) → FindsFiles known exchanges → FindsIn known x (session_after exchanges)
+    → exchanges ≡ before ++ less → y ∷ after ≡ less ++ x ∷ [] → FindsIn known y (session_after before)
+finds_last known exchanges before [] after x y all here front last =
     let same : y ≡ x = cc in
     let whole : exchanges ≡ before = front ∙ append-nil before in
-    subst (λ (z : Exchange). FindsIn may_find z (session_after before)) (sym same)
-    (subst (λ (l : List Exchange). FindsIn may_find x (session_after l)) whole here)
-finds_last may_find exchanges before (z ∷ less) after x y all here front last =
+    subst (λ (z : Exchange). FindsIn known z (session_after before)) (sym same)
+    (subst (λ (l : List Exchange). FindsIn known x (session_after l)) whole here)
+finds_last known exchanges before (z ∷ less) after x y all here front last =
     let same : y ≡ z = cc in
-    subst (λ (w : Exchange). FindsIn may_find w (session_after before)) (sym same) (all before less z front)
+    subst (λ (w : Exchange). FindsIn known w (session_after before)) (sym same) (all before less z front)
 
-finds_more : (may_find : Text → FileText → Type 0) (exchanges : List Exchange) (x : Exchange)
-    → FindsFiles may_find exchanges → FindsIn may_find x (session_after exchanges)
-    → FindsFiles may_find (exchanges ++ x ∷ [])
-finds_more may_find exchanges x all here before after y e =
+finds_more : (known : KnownFiles) (exchanges : List Exchange) (x : Exchange)
+    → FindsFiles known exchanges → FindsIn known x (session_after exchanges)
+    → FindsFiles known (exchanges ++ x ∷ [])
+finds_more known exchanges x all here before after y e =
     elim (split_last exchanges before (y ∷ after) x e) [
       | inl none ↦ absurd cc
-      | inr some ↦ finds_last may_find exchanges before some.0 after x y all here some.1 some.2
+      | inr some ↦ finds_last known exchanges before some.0 after x y all here some.1 some.2
     ]
 
-answered_more : (may_find : Text → FileText → Type 0) (start now : Ports) (d e : DebuggerState)
-    (given : Option (List Incoming)) (h : HasConversed may_find start now d) (x : Exchange)
-    → Gave now.given given (incoming_of x ∷ []) → FindsIn may_find x (session_after h.exchanges)
+answered_more : (known : KnownFiles) (start now : Ports) (d e : DebuggerState)
+    (given : Option (List Incoming)) (h : HasConversed known start now d) (x : Exchange)
+    → Gave now.given given (incoming_of x ∷ []) → FindsIn known x (session_after h.exchanges)
     → Past e (inputs_of h.exchanges ++ inputs_in x) (bytes_for h.exchanges)
-    → HasAnswered may_find start (ports given now.outlet) e
-answered_more may_find start now d e given h x gave found past = record {
+    → HasAnswered known start (ports given now.outlet) e
+answered_more known start now d e given h x gave found past = record {
   exchanges = h.exchanges;
   x = x;
   came = subst (λ l. Gave start.given given l) (sym (map-append incoming_of h.exchanges (x ∷ [])))
       (gave_on start.given now.given given (map incoming_of h.exchanges) (incoming_of x ∷ []) h.came gave);
-  found = finds_more may_find h.exchanges x h.found found;
+  found = finds_more known h.exchanges x h.found found;
   past = subst (λ l. Past e l (bytes_for h.exchanges)) (sym (inputs_more h.exchanges x)) past;
   took = h.took;
   goes_on = h.goes_on;
 }
 
 -- the request in a body is answered
-pub answered_body : (may_find : Text → FileText → Type 0) (start now : Ports) (d m e : DebuggerState)
+pub answered_body : (known : KnownFiles) (start now : Ports) (d m e : DebuggerState)
     (given : Option (List Incoming)) (came : Incoming) (body shown : Bytes)
-    (h : HasConversed may_find start now d) → Gave now.given given (came ∷ []) → came ≡ incoming.Body body
-    → shown ≡ body → Answers may_find shown d m
+    (h : HasConversed known start now d) → Gave now.given given (came ∷ []) → came ≡ incoming.Body body
+    → shown ≡ body → Answers known shown d m
     → ((inputs : List Input) (bytes : Bytes) → Past m inputs bytes → PastSlice e inputs bytes)
-    → HasAnswered may_find start (ports given now.outlet) e
-answered_body may_find start now d m e given came body shown h gave came_is shown_is a runs =
+    → HasAnswered known start (ports given now.outlet) e
+answered_body known start now d m e given came body shown h gave came_is shown_is a runs =
     let before = inputs_of h.exchanges in
     let each = a.each before (bytes_for h.exchanges) h.past in
-    let asked = request (request_of shown) each.0 ∷ [] in
+    let canonical = each.0 in
+    let found = each.1 in
+    let asked = request (asked_in shown canonical) found ∷ [] in
     let gave' : Gave now.given given (incoming.Body shown ∷ []) =
     subst (λ i. Gave now.given given (i ∷ [])) (came_is ∙ ap (λ b. incoming.Body b) (sym shown_is)) gave in
-    let on = runs (before ++ asked) (bytes_for h.exchanges) each.2 in
-    answered_more may_find start now d e given h (answered shown each.0 on.0) gave' each.1
+    let on = runs (before ++ asked) (bytes_for h.exchanges) each.3 in
+    answered_more known start now d e given h (answered shown canonical found on.0) gave' each.2
     (subst (λ l. Past e l (bytes_for h.exchanges)) (append_assoc before asked (slice on.0 ∷ [])) on.1)
 
 -- no body came
-pub answered_nothing : (may_find : Text → FileText → Type 0) (start now : Ports) (d e : DebuggerState)
-    (given : Option (List Incoming)) (came : Incoming) (h : HasConversed may_find start now d)
+pub answered_nothing : (known : KnownFiles) (start now : Ports) (d e : DebuggerState)
+    (given : Option (List Incoming)) (came : Incoming) (h : HasConversed known start now d)
     → Gave now.given given (came ∷ []) → came ≡ incoming.Nothing
     → ((inputs : List Input) (bytes : Bytes) → Past d inputs bytes → PastSlice e inputs bytes)
-    → HasAnswered may_find start (ports given now.outlet) e
-answered_nothing may_find start now d e given came h gave came_is runs =
+    → HasAnswered known start (ports given now.outlet) e
+answered_nothing known start now d e given came h gave came_is runs =
     let on = runs (inputs_of h.exchanges) (bytes_for h.exchanges) h.past in
-    answered_more may_find start now d e given h (idle on.0) (subst (λ i. Gave now.given given
+    answered_more known start now d e given h (idle on.0) (subst (λ i. Gave now.given given
     (i ∷ [])) came_is gave) tt on.1
 
 -- ---- how it begins
 
-finds_none : (may_find : Text → FileText → Type 0) → FindsFiles may_find []
-finds_none may_find [] after x e = absurd cc
-finds_none may_find (y ∷ before) after x e = absurd cc
+finds_none : (known : KnownFiles) → FindsFiles known []
+finds_none known [] after x e = absurd cc
+finds_none known (y ∷ before) after x e = absurd cc
 
 gave_none : (given : Option (List Incoming)) → Gave given given []
 gave_none None = tt
@@ -203,35 +204,35 @@ before_first : (before after : List Exchange) → [] ≡ before ++ after
 before_first [] after e = refl
 before_first (y ∷ before) after e = absurd cc
 
-pub starts : (may_find : Text → FileText → Type 0) (p : Ports) (d : DebuggerState) → Past d [] []
-    → HasConversed may_find p p d
-starts may_find p d past = record {
+pub starts : (known : KnownFiles) (p : Ports) (d : DebuggerState) → Past d [] []
+    → HasConversed known p p d
+starts known p d past = record {
   exchanges = [];
   came = gave_none p.given;
-  found = finds_none may_find;
+  found = finds_none known;
   past = past;
   sent = none_told past.before d.told past.messages;
   took = took_none p.outlet.taken;
   goes_on = λ before after e. before_first before after e;
 }
 
-pub ends_at_once : (may_find : Text → FileText → Type 0) (p : Ports) → Converses may_find p p end.OutOfMemory
-ends_at_once may_find p = record {
+pub ends_at_once : (known : KnownFiles) (p : Ports) → Converses known p p end.OutOfMemory
+ends_at_once known p = record {
   exchanges = [];
   last = [];
   came = gave_none p.given;
-  found = finds_none may_find;
+  found = finds_none known;
   ends = (omega arith, took_none p.outlet.taken);
   goes_on = λ before after e some. before_first before after e;
 }
 
 -- ---- how it ends
 
-pub ends_with : (may_find : Text → FileText → Type 0) (start now : Ports) (d : DebuggerState)
-    (given : Option (List Incoming)) (how : StreamEnd) → HasConversed may_find start now d
+pub ends_with : (known : KnownFiles) (start now : Ports) (d : DebuggerState)
+    (given : Option (List Incoming)) (how : StreamEnd) → HasConversed known start now d
     → Gave now.given given (incoming.End how ∷ [])
-    → Converses may_find start (ports given now.outlet) (end.Stream how)
-ends_with may_find start now d given how h gave = record {
+    → Converses known start (ports given now.outlet) (end.Stream how)
+ends_with known start now d given how h gave = record {
   exchanges = h.exchanges;
   last = incoming.End how ∷ [];
   came = gave_on start.given now.given given (map incoming_of h.exchanges)
@@ -241,10 +242,10 @@ ends_with may_find start now d given how h gave = record {
   goes_on = λ before after e some. h.goes_on before after e;
 }
 
-pub ends_without_memory : (may_find : Text → FileText → Type 0) (start now : Ports) (d : DebuggerState)
-    (given : Option (List Incoming)) (i : Incoming) → HasConversed may_find start now d
-    → Gave now.given given (i ∷ []) → Converses may_find start (ports given now.outlet) end.OutOfMemory
-ends_without_memory may_find start now d given i h gave = record {
+pub ends_without_memory : (known : KnownFiles) (start now : Ports) (d : DebuggerState)
+    (given : Option (List Incoming)) (i : Incoming) → HasConversed known start now d
+    → Gave now.given given (i ∷ []) → Converses known start (ports given now.outlet) end.OutOfMemory
+ends_without_memory known start now d given i h gave = record {
   exchanges = h.exchanges;
   last = i ∷ [];
   came = gave_on start.given now.given given (map incoming_of h.exchanges) (i ∷ []) h.came gave;
@@ -255,26 +256,26 @@ ends_without_memory may_find start now d given i h gave = record {
 
 -- ---- the messages of an exchange
 
-abbrev all_of : {may_find : Text → FileText → Type 0} {start now : Ports} {d : DebuggerState}
-    → HasAnswered may_find start now d → List Exchange
+abbrev all_of : {known : KnownFiles} {start now : Ports} {d : DebuggerState}
+    → HasAnswered known start now d → List Exchange
 all_of h = h.exchanges ++ h.x ∷ []
 
 -- the exchanges before the last don't end the conversation
-before_last : (may_find : Text → FileText → Type 0) (start now : Ports) (d : DebuggerState)
-    (h : HasAnswered may_find start now d) (before after : List Exchange) → all_of h ≡ before ++ after
+before_last : (known : KnownFiles) (start now : Ports) (d : DebuggerState)
+    (h : HasAnswered known start now d) (before after : List Exchange) → all_of h ≡ before ++ after
     → (after ≢ [] → (session_after before).settings.has_ended ≡ false)
-before_last may_find start now d h before after e some =
+before_last known start now d h before after e some =
     elim (split_last h.exchanges before after h.x e) [
       | inl none ↦ absurd (some none)
       | inr less ↦ h.goes_on before less.0 less.1
     ]
 
-pub goes_on_with : (may_find : Text → FileText → Type 0) (start now : Ports) (d e : DebuggerState)
-    (outlet : OutletState) (has_ended : Bool) (h : HasAnswered may_find start now d)
+pub goes_on_with : (known : KnownFiles) (start now : Ports) (d e : DebuggerState)
+    (outlet : OutletState) (has_ended : Bool) (h : HasAnswered known start now d)
     → Writes d e now.outlet outlet
     → ((v : RecordedState) → RepresentsRecorded e.session v → has_ended ≡ v.session.settings.has_ended)
-    → has_ended ≡ false → HasConversed may_find start (ports now.given outlet) e
-goes_on_with may_find start now d e outlet has_ended h w told live =
+    → has_ended ≡ false → HasConversed known start (ports now.given outlet) e
+goes_on_with known start now d e outlet has_ended h w told live =
     let all = all_of h in
     let each = w.each (inputs_of all) (bytes_for h.exchanges) h.past in
     let whole = past_whole e (inputs_of all) (bytes_for h.exchanges ++ each.0) each.1 w.sent in
@@ -295,12 +296,12 @@ goes_on_with may_find start now d e outlet has_ended h w told live =
       ];
     }
 
-pub disconnects : (may_find : Text → FileText → Type 0) (start now : Ports) (d e : DebuggerState)
-    (outlet : OutletState) (has_ended : Bool) (h : HasAnswered may_find start now d)
+pub disconnects : (known : KnownFiles) (start now : Ports) (d e : DebuggerState)
+    (outlet : OutletState) (has_ended : Bool) (h : HasAnswered known start now d)
     → Writes d e now.outlet outlet
     → ((v : RecordedState) → RepresentsRecorded e.session v → has_ended ≡ v.session.settings.has_ended)
-    → has_ended ≡ true → Converses may_find start (ports now.given outlet) end.Disconnected
-disconnects may_find start now d e outlet has_ended h w told over =
+    → has_ended ≡ true → Converses known start (ports now.given outlet) end.Disconnected
+disconnects known start now d e outlet has_ended h w told over =
     let all = all_of h in
     let each = w.each (inputs_of all) (bytes_for h.exchanges) h.past in
     let whole = past_whole e (inputs_of all) (bytes_for h.exchanges ++ each.0) each.1 w.sent in
@@ -312,13 +313,13 @@ disconnects may_find start now d e outlet has_ended h w told over =
       came = subst (λ l. Gave start.given now.given l) (sym (append-nil (map incoming_of all))) h.came;
       found = h.found;
       ends = (refl, sym (told _ each.1.session) ∙ over, took);
-      goes_on = before_last may_find start now d h;
+      goes_on = before_last known start now d h;
     }
 
-fails_to_write : (may_find : Text → FileText → Type 0) (start now : Ports) (d e : DebuggerState)
-    (outlet : OutletState) (h : HasAnswered may_find start now d) → outlet.failed ≡ true
-    → WritesPrefix d e now.outlet outlet → Converses may_find start (ports now.given outlet) end.WriteFailed
-fails_to_write may_find start now d e outlet h failed w =
+fails_to_write : (known : KnownFiles) (start now : Ports) (d e : DebuggerState)
+    (outlet : OutletState) (h : HasAnswered known start now d) → outlet.failed ≡ true
+    → WritesPrefix d e now.outlet outlet → Converses known start (ports now.given outlet) end.WriteFailed
+fails_to_write known start now d e outlet h failed w =
     let all = all_of h in
     let each = w.each (inputs_of all) (bytes_for h.exchanges) h.past in
     let whole = past_whole e (inputs_of all) (bytes_for h.exchanges ++ each.0) each.1 w.sent in
@@ -331,12 +332,12 @@ fails_to_write may_find start now d e outlet h failed w =
       came = subst (λ l. Gave start.given now.given l) (sym (append-nil (map incoming_of all))) h.came;
       found = h.found;
       ends = (refl, failed, took);
-      goes_on = before_last may_find start now d h;
+      goes_on = before_last known start now d h;
     }
 
-runs_out_of_memory : (may_find : Text → FileText → Type 0) (start now : Ports) (d : DebuggerState)
-    → HasAnswered may_find start now d → Converses may_find start now end.OutOfMemory
-runs_out_of_memory may_find start now d h = record {
+runs_out_of_memory : (known : KnownFiles) (start now : Ports) (d : DebuggerState)
+    → HasAnswered known start now d → Converses known start now end.OutOfMemory
+runs_out_of_memory known start now d h = record {
   exchanges = h.exchanges;
   last = incoming_of h.x ∷ [];
   came = subst (λ l. Gave start.given now.given l) (map-append incoming_of h.exchanges (h.x ∷ [])) h.came;
@@ -346,12 +347,12 @@ runs_out_of_memory may_find start now d h = record {
   goes_on = λ before after e some. h.goes_on before after e;
 }
 
-pub fails_with : (may_find : Text → FileText → Type 0) (start now : Ports) (d e : DebuggerState)
-    (outlet : OutletState) (how : ConversationEnd) → HasAnswered may_find start now d
-    → FailsToWrite d e now.outlet outlet how → Converses may_find start (ports now.given outlet) how
-fails_with may_find start now d e outlet end.OutOfMemory h f =
-    subst (λ (o : OutletState). Converses may_find start (ports now.given o) end.OutOfMemory) (sym f)
-    (runs_out_of_memory may_find start now d h)
-fails_with may_find start now d e outlet end.WriteFailed h f =
-    fails_to_write may_find start now d e outlet h f.0 f.1
-fails_with may_find start now d e outlet _ h f = absurd f
+pub fails_with : (known : KnownFiles) (start now : Ports) (d e : DebuggerState)
+    (outlet : OutletState) (how : ConversationEnd) → HasAnswered known start now d
+    → FailsToWrite d e now.outlet outlet how → Converses known start (ports now.given outlet) how
+fails_with known start now d e outlet end.OutOfMemory h f =
+    subst (λ (o : OutletState). Converses known start (ports now.given o) end.OutOfMemory) (sym f)
+    (runs_out_of_memory known start now d h)
+fails_with known start now d e outlet end.WriteFailed h f =
+    fails_to_write known start now d e outlet h f.0 f.1
+fails_with known start now d e outlet _ h f = absurd f

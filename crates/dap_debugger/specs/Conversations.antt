@@ -5,6 +5,8 @@ use Rattle.std.specs.List.{flat_map}
 use Rattle.base_text.specs.Bytes.{Bytes, Text}
 use Rattle.base_streams.specs.States.{OutletState}
 use Rattle.base_streams.specs.Told.{Took, TookPrefix}
+use Rattle.dap_editor.specs.declared.request.EditorRequest.{EditorRequest}
+use Rattle.dap_editor.specs.Paths.{path_in, with_canonical}
 use Rattle.dap_launch.specs.declared.file.FileText.{FileText}
 use Rattle.dap_session.specs.States.{SessionState}
 use Rattle.dap_session.specs.Requests.{wanted_file}
@@ -17,23 +19,30 @@ use Rattle.dap_debugger.specs.declared.conversation.ConversationEnd.TheVariants 
 use Rattle.dap_debugger.specs.Requests.{request_of}
 use Rattle.dap_debugger.specs.Sending.{sent_bytes}
 use Rattle.dap_debugger.specs.Given.{Gave}
+use Rattle.dap_debugger.specs.KnownFiles.{KnownFiles}
 use Rattle.dap_debugger.specs.Debuggers.{DebuggerState, Past}
 
 -- ---- exchanges
 
--- A body that was answered, with what was found at the path that its request needs; or no body came, and the
--- run went on. Each says whether a search backward came to its end in it.
+-- A body that was answered, with the canonical path of the file that its request names, if one was found, and
+-- what was found at the path that the request needs; or no body came, and the run went on. Each says
+-- whether a search backward came to its end in it.
 pub data Exchange : Type 0 where
-  answered : Bytes → Option FileText → Bool → Exchange
+  answered : Bytes → Option Text → Option FileText → Bool → Exchange
   idle : Bool → Exchange
 
 abbrev pub incoming_of : Exchange → Incoming
-incoming_of (answered body found finds) = incoming.Body body
+incoming_of (answered body canonical found finds) = incoming.Body body
 incoming_of (idle finds) = incoming.Nothing
+
+-- the request in a body, with this canonical path of the file that it names
+abbrev pub asked_in : Bytes → Option Text → EditorRequest
+asked_in body canonical = with_canonical canonical (request_of body)
 
 -- the request, and a slice of the run, which is nothing if no run goes on
 abbrev pub inputs_in : Exchange → List Input
-inputs_in (answered body found finds) = request (request_of body) found ∷ slice finds ∷ []
+inputs_in (answered body canonical found finds) =
+    request (asked_in body canonical) found ∷ slice finds ∷ []
 inputs_in (idle finds) = slice finds ∷ []
 
 abbrev pub inputs_of : List Exchange → List Input
@@ -49,20 +58,34 @@ bytes_for exchanges = sent_bytes 0 (play_all (inputs_of exchanges) recorded_befo
 
 -- ---- files
 
--- what was found is what may be found at the path that is needed, and nothing if none is
-abbrev pub IsFound : (Text → FileText → Type 0) → Option Text → Option FileText → Type 0
-IsFound may_find None found = found ≡ None
-IsFound may_find (Some path) found = (file : FileText) × (found ≡ Some file) × may_find path file
+-- the canonical path is one that the file at this path may have, and there is none if no file is named
+abbrev pub IsCanonical : KnownFiles → Option Text → Option Text → Type 0
+IsCanonical known None canonical = canonical ≡ None
+IsCanonical known (Some path) canonical = known.may_be_at path canonical
 
-abbrev pub FindsIn : (Text → FileText → Type 0) → Exchange → SessionState → Type 0
-FindsIn may_find (answered body found finds) s = IsFound may_find (wanted_file (request_of body).asked s)
-    found
-FindsIn may_find (idle finds) s = Unit {0}
+-- the same request with such a path of the file that it names
+abbrev pub IsResolved : KnownFiles → EditorRequest → EditorRequest → Type 0
+IsResolved known r resolved = (canonical : Option Text)
+    × IsCanonical known (path_in r.asked) canonical × (resolved ≡ with_canonical canonical r)
+
+-- what was found is what may be found at the path that is needed, and nothing if none is
+abbrev pub IsFound : KnownFiles → Option Text → Option FileText → Type 0
+IsFound known None found = found ≡ None
+IsFound known (Some path) found = (file : FileText) × (found ≡ Some file) × known.may_find path file
+
+-- both for the request in a body
+abbrev pub FindsFor : KnownFiles → Bytes → Option Text → Option FileText → SessionState → Type 0
+FindsFor known body canonical found s = IsCanonical known (path_in (request_of body).asked) canonical
+    × IsFound known (wanted_file (asked_in body canonical).asked s) found
+
+abbrev pub FindsIn : KnownFiles → Exchange → SessionState → Type 0
+FindsIn known (answered body canonical found finds) s = FindsFor known body canonical found s
+FindsIn known (idle finds) s = Unit {0}
 
 -- in each exchange, by the session before it
-abbrev pub FindsFiles : (Text → FileText → Type 0) → List Exchange → Type 0
-FindsFiles may_find exchanges = (before after : List Exchange) (x : Exchange)
-    → exchanges ≡ before ++ x ∷ after → FindsIn may_find x (session_after before)
+abbrev pub FindsFiles : KnownFiles → List Exchange → Type 0
+FindsFiles known exchanges = (before after : List Exchange) (x : Exchange)
+    → exchanges ≡ before ++ x ∷ after → FindsIn known x (session_after before)
 
 -- ---- a conversation
 
@@ -87,22 +110,20 @@ EndsBy end.OutOfMemory exchanges last old new = (length last ≤ 1) × Took old 
 
 -- All that the source gave was answered in its order, each body by what the session says of it and of what
 -- may be found. What went out are the messages of these exchanges. None but the last answered a disconnect.
-pub record Converses (may_find : Text → FileText → Type 0) (old new : Ports) (how : ConversationEnd)
-    : Type 0 where
+pub record Converses (known : KnownFiles) (old new : Ports) (how : ConversationEnd) : Type 0 where
   pub exchanges : List Exchange
   pub last : List Incoming
   pub came : Gave old.given new.given (map incoming_of exchanges ++ last)
-  pub found : FindsFiles may_find exchanges
+  pub found : FindsFiles known exchanges
   pub ends : EndsBy how exchanges last old.outlet new.outlet
   pub goes_on : (before after : List Exchange) → exchanges ≡ before ++ after → after ≢ []
       → (session_after before).settings.has_ended ≡ false
 
 -- the same so far, of a conversation that goes on, whose debugger is this
-pub record HasConversed (may_find : Text → FileText → Type 0) (old new : Ports) (d : DebuggerState)
-    : Type 0 where
+pub record HasConversed (known : KnownFiles) (old new : Ports) (d : DebuggerState) : Type 0 where
   pub exchanges : List Exchange
   pub came : Gave old.given new.given (map incoming_of exchanges)
-  pub found : FindsFiles may_find exchanges
+  pub found : FindsFiles known exchanges
   pub past : Past d (inputs_of exchanges) (bytes_for exchanges)
   pub sent : d.told ≡ []
   pub took : Took old.outlet new.outlet (bytes_for exchanges)
@@ -111,13 +132,12 @@ pub record HasConversed (may_find : Text → FileText → Type 0) (old new : Por
 
 -- ---- parts of an exchange
 
--- the request in a body is answered, by what was found at the path that it needs
-pub record Answers (may_find : Text → FileText → Type 0) (body : Bytes) (old new : DebuggerState)
-    : Type 0 where
-  pub each : (inputs : List Input) (bytes : Bytes) → Past old inputs bytes → (found : Option FileText)
-      × IsFound may_find
-      (wanted_file (request_of body).asked (play_all inputs recorded_before_requests).state.session) found
-      × Past new (inputs ++ request (request_of body) found ∷ []) bytes
+-- the request in a body is answered, by what was found for it
+pub record Answers (known : KnownFiles) (body : Bytes) (old new : DebuggerState) : Type 0 where
+  pub each : (inputs : List Input) (bytes : Bytes) → Past old inputs bytes
+      → (canonical : Option Text) × (found : Option FileText)
+      × FindsFor known body canonical found (play_all inputs recorded_before_requests).state.session
+      × Past new (inputs ++ request (asked_in body canonical) found ∷ []) bytes
 
 -- what waited is written
 pub record Writes (old new : DebuggerState) (from to : OutletState) : Type 0 where
@@ -138,12 +158,11 @@ FailsToWrite old new from to end.WriteFailed = (to.failed ≡ true) × WritesPre
 FailsToWrite old new from to _ = ⊥
 
 -- all exchanges but the last were written
-pub record HasAnswered (may_find : Text → FileText → Type 0) (old new : Ports) (d : DebuggerState)
-    : Type 0 where
+pub record HasAnswered (known : KnownFiles) (old new : Ports) (d : DebuggerState) : Type 0 where
   pub exchanges : List Exchange
   pub x : Exchange
   pub came : Gave old.given new.given (map incoming_of (exchanges ++ x ∷ []))
-  pub found : FindsFiles may_find (exchanges ++ x ∷ [])
+  pub found : FindsFiles known (exchanges ++ x ∷ [])
   pub past : Past d (inputs_of (exchanges ++ x ∷ [])) (bytes_for exchanges)
   pub took : Took old.outlet new.outlet (bytes_for exchanges)
   pub goes_on : (before after : List Exchange) → exchanges ≡ before ++ after

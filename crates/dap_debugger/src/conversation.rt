@@ -2,12 +2,14 @@
 ghost use Rattle.std.specs.Prelude.{◌≡◌, ◌++◌, ◌∷◌, [], List, OnOk, IfOk, IfErr};
 ghost use Rattle.base_text.specs.Bytes.{Bytes};
 ghost use Rattle.base_streams.specs.States.{OutletState};
+ghost use Rattle.dap_editor.specs.Paths.{path_in};
 ghost use Rattle.dap_session.specs.Requests.{wanted_file};
 ghost use Rattle.dap_record.specs.Recordings.{RecordedState};
 ghost use Rattle.dap_record.specs.Represents.{RepresentsRecorded};
 ghost use Rattle.dap_record.specs.Slices.{Input};
 ghost use Rattle.dap_debugger.specs.Debuggers.{Past, PastSlice};
-ghost use Rattle.dap_debugger.specs.Conversations.{Ports, IsFound, Answers, Writes, FailsToWrite};
+ghost use Rattle.dap_debugger.specs.Conversations.{Ports, IsCanonical, IsResolved, IsFound, Answers};
+ghost use Rattle.dap_debugger.specs.Conversations.{Writes, FailsToWrite};
 ghost use Rattle.dap_debugger.specs.Conversations.{HasConversed, HasAnswered, Converses, ports};
 
 use crate::debugger::Debugger;
@@ -15,6 +17,7 @@ use crate::incoming::{BodySource, Incoming, ProgramFiles, StreamEnd};
 use crate::requests::read_request;
 use base_streams::ports::Outlet;
 use base_streams::writing::write_all;
+use base_text::text::Text;
 use dap_editor::request::EditorRequest;
 use dap_launch::file::FileText;
 use std::alloc::{AllocError, Global};
@@ -31,6 +34,37 @@ pub enum ConversationEnd {
     WriteFailed,
 }
 
+// The canonical path of the file that a request names, if it names one that has such a path.
+fn find_canonical<F: ProgramFiles>(
+    alloc: Global,
+    files: &F,
+    request: &EditorRequest,
+) -> Result<Option<Text>, AllocError>
+    ensures { IfOk result (IsCanonical (F.known files.now) (path_in request.now.asked)) }
+{
+    match request.path() {
+        Some(path) => files.canonical(alloc, path),
+        None => Ok(None),
+    }
+}
+
+// The request with the canonical path of the file that it names, if the file has one.
+fn resolve<F: ProgramFiles>(
+    alloc: Global,
+    files: &F,
+    request: EditorRequest,
+) -> Result<EditorRequest, AllocError>
+    ensures { IfOk result (IsResolved (F.known files.now) request) }
+{
+    match find_canonical(alloc, files, &request) {
+        Ok(path) => Ok(request.with_canonical(path)),
+        Err(error) => {
+            drop(request);
+            Err(error)
+        }
+    }
+}
+
 // What is found at the path that a request needs, if it needs one.
 fn find_file<F: ProgramFiles>(
     alloc: Global,
@@ -39,7 +73,7 @@ fn find_file<F: ProgramFiles>(
     request: &EditorRequest,
 ) -> Result<Option<FileText>, AllocError>
     ensures { (v : RecordedState) → RepresentsRecorded debugger.now.session v → IfOk result
-        (IsFound (F.may_find files.now) (wanted_file request.now.asked v.session)) }
+        (IsFound (F.known files.now) (wanted_file request.now.asked v.session)) }
 {
     match debugger.session().wanted_file(request) {
         Some(path) => Ok(Some(files.read(alloc, path)?)),
@@ -54,9 +88,10 @@ fn answer_body<F: ProgramFiles>(
     files: &F,
     body: &[u8],
 ) -> Result<(), AllocError>
-    ensures { OnOk result (Answers (F.may_find files.now) body.now debugger.old debugger.new) }
+    ensures { OnOk result (Answers (F.known files.now) body.now debugger.old debugger.new) }
 {
     let request = read_request(alloc, body)?;
+    let request = resolve(alloc, files, request)?;
     match find_file(alloc, debugger, files, &request) {
         Ok(file) => debugger.answer(alloc, request, file),
         Err(error) => {
@@ -86,12 +121,12 @@ fn answer_next<S: BodySource, F: ProgramFiles>(
     files: &F,
 ) -> Result<(), ConversationEnd>
     ensures ok { (start : Ports) (outlet : OutletState)
-        → HasConversed (F.may_find files.now) start (ports (S.given source.old) outlet) debugger.old
-        → OnOk result (HasAnswered (F.may_find files.now) start (ports
-        (S.given source.new) outlet) debugger.new) }
+        → HasConversed (F.known files.now) start (ports (S.given source.old) outlet) debugger.old
+        → OnOk result (HasAnswered (F.known files.now) start
+        (ports (S.given source.new) outlet) debugger.new) }
     ensures err { (start : Ports) (outlet : OutletState)
-        → HasConversed (F.may_find files.now) start (ports (S.given source.old) outlet) debugger.old
-        → IfErr result (Converses (F.may_find files.now) start (ports (S.given source.new) outlet)) }
+        → HasConversed (F.known files.now) start (ports (S.given source.old) outlet) debugger.old
+        → IfErr result (Converses (F.known files.now) start (ports (S.given source.new) outlet)) }
 {
     let is_running = debugger.session().wants_slice();
     match source.next(is_running) {
@@ -138,14 +173,14 @@ fn round<S: BodySource, F: ProgramFiles, W: Outlet>(
     outlet: &mut W,
 ) -> Result<(), ConversationEnd>
     ensures ok { (start : Ports)
-        → HasConversed (F.may_find files.now) start (ports (S.given source.old)
-        (W.state outlet.old)) debugger.old
-        → OnOk result (HasConversed (F.may_find files.now) start
+        → HasConversed (F.known files.now) start
+        (ports (S.given source.old) (W.state outlet.old)) debugger.old
+        → OnOk result (HasConversed (F.known files.now) start
         (ports (S.given source.new) (W.state outlet.new)) debugger.new) }
     ensures err { (start : Ports)
-        → HasConversed (F.may_find files.now) start (ports (S.given source.old)
-        (W.state outlet.old)) debugger.old
-        → IfErr result (Converses (F.may_find files.now) start
+        → HasConversed (F.known files.now) start
+        (ports (S.given source.old) (W.state outlet.old)) debugger.old
+        → IfErr result (Converses (F.known files.now) start
         (ports (S.given source.new) (W.state outlet.new))) }
 {
     match answer_next(alloc, debugger, source, files) {
@@ -171,7 +206,7 @@ pub fn converse<R: Wait, S: BodySource, F: ProgramFiles, W: Outlet>(
     files: &F,
     outlet: &mut W,
 ) -> ConversationEnd
-    ensures { Converses (F.may_find files.now) (ports (S.given source.old) (W.state outlet.old))
+    ensures { Converses (F.known files.now) (ports (S.given source.old) (W.state outlet.old))
         (ports (S.given source.new) (W.state outlet.new)) result }
 {
     let Ok(mut debugger) = Debugger::new(alloc) else {

@@ -1,11 +1,11 @@
 //! Where the bodies of a conversation and the programs' files come from.
 ghost use Rattle.std.specs.Prelude.{◌∷◌, [], Option, List, IfOk};
-ghost use Rattle.base_text.specs.Bytes.{Text as TextOf};
-ghost use Rattle.dap_launch.specs.declared.file.FileText.{FileText as FileTextOf};
 ghost use Rattle.dap_debugger.specs.declared.incoming.Incoming.{Incoming as IncomingOf};
 ghost use Rattle.dap_debugger.specs.Given.{Gave};
+ghost use Rattle.dap_debugger.specs.KnownFiles.{KnownFiles};
 
 use base_text::sequence::Bytes;
+use base_text::text::Text;
 use dap_launch::file::FileText;
 use dap_stream::fault::StreamFault;
 use std::alloc::{AllocError, Global};
@@ -42,10 +42,15 @@ pub trait BodySource {
 
 /// The files of programs.
 pub trait ProgramFiles {
-    /// What may be found at a path. Of files that others can change this is anything.
-    ghost may_find: { Self → TextOf → FileTextOf → Type 0 };
+    /// What is known of them.
+    ghost known: { Self → KnownFiles };
 
     /// What is found at a path. Fails if memory runs out.
     fn read(&self, alloc: Global, path: &str) -> Result<FileText, AllocError>
-        ensures { IfOk result (λ found. may_find self.now path.now found) };
+        ensures { IfOk result (λ found. (known self.now).may_find path.now found) };
+
+    /// The canonical path of the file at a path, if it has one: `None` if there is no such file, or if its
+    /// canonical path isn't UTF-8. Fails if memory runs out.
+    fn canonical(&self, alloc: Global, path: &str) -> Result<Option<Text>, AllocError>
+        ensures { IfOk result (λ found. (known self.now).may_be_at path.now found) };
 }

@@ -3,7 +3,8 @@
 // messages of dap_record's definition, in order, as compact JSON in the base protocol's framing, numbered
 // from 1 on. A body that isn't JSON is answered too, as a request that is none. If memory runs out no more
 // messages wait to be sent, but a debugger can't be used any more. `converse` answers all that an editor's
-// source gives, in its order, and what it writes are these messages.
+// source gives, in its order, and what it writes are these messages. The path that a request
+// names is resolved first, so that the session compares canonical paths.
 #![tactic(auto)]
 
 pub mod conversation;

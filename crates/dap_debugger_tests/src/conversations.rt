@@ -19,9 +19,9 @@ const LETTER: &str = r#"
     "supportsDataBreakpoints":true,"supportsDisassembleRequest":true,
     "supportsEvaluateForHovers":true,"supportsExceptionInfoRequest":true,
     "supportsFunctionBreakpoints":true,"supportsGotoTargetsRequest":true,
-    "supportsLoadedSourcesRequest":true,"supportsLogPoints":true,"supportsReadMemoryRequest":true,
-    "supportsRestartRequest":true,"supportsSetVariable":true,"supportsStepBack":true,
-    "supportsSteppingGranularity":true,"supportsTerminateRequest":true,
+    "supportsInstructionBreakpoints":true,"supportsLoadedSourcesRequest":true,"supportsLogPoints":true,
+    "supportsReadMemoryRequest":true,"supportsRestartRequest":true,"supportsSetVariable":true,
+    "supportsStepBack":true,"supportsSteppingGranularity":true,"supportsTerminateRequest":true,
     "supportsWriteMemoryRequest":true},"command":"initialize","request_seq":1,"seq":1,"success":true,
     "type":"response"}
 > {"seq":2,"type":"request","command":"launch","arguments":{"program":"letter.asm"}}
@@ -50,9 +50,9 @@ const LOOP: &str = r#"
     "supportsDataBreakpoints":true,"supportsDisassembleRequest":true,
     "supportsEvaluateForHovers":true,"supportsExceptionInfoRequest":true,
     "supportsFunctionBreakpoints":true,"supportsGotoTargetsRequest":true,
-    "supportsLoadedSourcesRequest":true,"supportsLogPoints":true,"supportsReadMemoryRequest":true,
-    "supportsRestartRequest":true,"supportsSetVariable":true,"supportsStepBack":true,
-    "supportsSteppingGranularity":true,"supportsTerminateRequest":true,
+    "supportsInstructionBreakpoints":true,"supportsLoadedSourcesRequest":true,"supportsLogPoints":true,
+    "supportsReadMemoryRequest":true,"supportsRestartRequest":true,"supportsSetVariable":true,
+    "supportsStepBack":true,"supportsSteppingGranularity":true,"supportsTerminateRequest":true,
     "supportsWriteMemoryRequest":true},"command":"initialize","request_seq":2,"seq":2,"success":true,
     "type":"response"}
 > {"seq":3,"type":"request","command":"launch","arguments":{"program":"other.asm"}}
@@ -80,9 +80,9 @@ const BACK: &str = r#"
     "supportsDataBreakpoints":true,"supportsDisassembleRequest":true,
     "supportsEvaluateForHovers":true,"supportsExceptionInfoRequest":true,
     "supportsFunctionBreakpoints":true,"supportsGotoTargetsRequest":true,
-    "supportsLoadedSourcesRequest":true,"supportsLogPoints":true,"supportsReadMemoryRequest":true,
-    "supportsRestartRequest":true,"supportsSetVariable":true,"supportsStepBack":true,
-    "supportsSteppingGranularity":true,"supportsTerminateRequest":true,
+    "supportsInstructionBreakpoints":true,"supportsLoadedSourcesRequest":true,"supportsLogPoints":true,
+    "supportsReadMemoryRequest":true,"supportsRestartRequest":true,"supportsSetVariable":true,
+    "supportsStepBack":true,"supportsSteppingGranularity":true,"supportsTerminateRequest":true,
     "supportsWriteMemoryRequest":true},"command":"initialize","request_seq":1,"seq":1,"success":true,
     "type":"response"}
 > {"seq":2,"type":"request","command":"launch","arguments":{"program":"letters.asm","stopOnEntry":true}}
@@ -147,9 +147,9 @@ const SEARCH: &str = r#"
     "supportsDataBreakpoints":true,"supportsDisassembleRequest":true,
     "supportsEvaluateForHovers":true,"supportsExceptionInfoRequest":true,
     "supportsFunctionBreakpoints":true,"supportsGotoTargetsRequest":true,
-    "supportsLoadedSourcesRequest":true,"supportsLogPoints":true,"supportsReadMemoryRequest":true,
-    "supportsRestartRequest":true,"supportsSetVariable":true,"supportsStepBack":true,
-    "supportsSteppingGranularity":true,"supportsTerminateRequest":true,
+    "supportsInstructionBreakpoints":true,"supportsLoadedSourcesRequest":true,"supportsLogPoints":true,
+    "supportsReadMemoryRequest":true,"supportsRestartRequest":true,"supportsSetVariable":true,
+    "supportsStepBack":true,"supportsSteppingGranularity":true,"supportsTerminateRequest":true,
     "supportsWriteMemoryRequest":true},"command":"initialize","request_seq":2,"seq":2,"success":true,
     "type":"response"}
 > {"seq":3,"type":"request","command":"launch","arguments":{"program":"other.asm"}}
@@ -188,11 +188,58 @@ const SEARCH: &str = r#"
 < {"body":{},"command":"disconnect","request_seq":13,"seq":17,"success":true,"type":"response"}
 "#;
 
-const TALKS: [(&str, ConversationEnd); 5] = [
+/// A program whose file has one path when it is launched, and two others when breakpoints are set. It is
+/// shown by the path that it was launched with.
+const PATHS: &str = r#"
+> {"seq":1,"type":"request","command":"initialize"}
+< {"body":{"exceptionBreakpointFilters":[{"default":true,"filter":"undefined",
+    "label":"Undefined opcodes"},{"default":false,"filter":"halt","label":"HLT"}],
+    "supportsBreakpointLocationsRequest":true,"supportsConditionalBreakpoints":true,
+    "supportsConfigurationDoneRequest":true,"supportsDataBreakpointBytes":true,
+    "supportsDataBreakpoints":true,"supportsDisassembleRequest":true,
+    "supportsEvaluateForHovers":true,"supportsExceptionInfoRequest":true,
+    "supportsFunctionBreakpoints":true,"supportsGotoTargetsRequest":true,
+    "supportsInstructionBreakpoints":true,"supportsLoadedSourcesRequest":true,"supportsLogPoints":true,
+    "supportsReadMemoryRequest":true,"supportsRestartRequest":true,"supportsSetVariable":true,
+    "supportsStepBack":true,"supportsSteppingGranularity":true,"supportsTerminateRequest":true,
+    "supportsWriteMemoryRequest":true},"command":"initialize","request_seq":1,"seq":1,"success":true,
+    "type":"response"}
+> {"seq":2,"type":"request","command":"launch","arguments":{"program":"./letters.asm"}}
+< {"body":{},"command":"launch","request_seq":2,"seq":2,"success":true,"type":"response"}
+< {"event":"initialized","seq":3,"type":"event"}
+> {"seq":3,"type":"request","command":"setBreakpoints","arguments":{"source":{"path":"letters.asm"},
+    "breakpoints":[{"line":3}]}}
+< {"body":{"breakpoints":[{"id":257,"line":3,"verified":true}]},"command":"setBreakpoints",
+    "request_seq":3,"seq":4,"success":true,"type":"response"}
+> {"seq":4,"type":"request","command":"setBreakpoints",
+    "arguments":{"source":{"path":"/home/letters.asm"},"breakpoints":[{"line":5}]}}
+< {"body":{"breakpoints":[{"id":257,"line":5,"verified":true}]},"command":"setBreakpoints",
+    "request_seq":4,"seq":5,"success":true,"type":"response"}
+> {"seq":5,"type":"request","command":"configurationDone"}
+< {"body":{},"command":"configurationDone","request_seq":5,"seq":6,"success":true,"type":"response"}
+< {"body":{"category":"stdout","output":"A"},"event":"output","seq":7,"type":"event"}
+< {"body":{"allThreadsStopped":true,"reason":"breakpoint","threadId":1},"event":"stopped","seq":8,
+    "type":"event"}
+> {"seq":6,"type":"request","command":"evaluate","arguments":{"expression":"PC"}}
+< {"body":{"result":"00105H","variablesReference":0},"command":"evaluate","request_seq":6,"seq":9,
+    "success":true,"type":"response"}
+> {"seq":7,"type":"request","command":"breakpointLocations",
+    "arguments":{"source":{"path":"letters.asm"},"line":4}}
+< {"body":{"breakpoints":[{"line":4}]},"command":"breakpointLocations","request_seq":7,"seq":10,
+    "success":true,"type":"response"}
+> {"seq":8,"type":"request","command":"loadedSources"}
+< {"body":{"sources":[{"name":"letters.asm","path":"./letters.asm"}]},"command":"loadedSources",
+    "request_seq":8,"seq":11,"success":true,"type":"response"}
+> {"seq":9,"type":"request","command":"disconnect"}
+< {"body":{},"command":"disconnect","request_seq":9,"seq":12,"success":true,"type":"response"}
+"#;
+
+const TALKS: [(&str, ConversationEnd); 6] = [
     (LETTER, ConversationEnd::Disconnected),
     (LOOP, ConversationEnd::Stream(StreamEnd::ReadFailed)),
     (BACK, ConversationEnd::Disconnected),
     (SEARCH, ConversationEnd::Disconnected),
+    (PATHS, ConversationEnd::Disconnected),
     ("", ConversationEnd::Stream(StreamEnd::Ended)),
 ];
 

@@ -43,14 +43,25 @@ MAIN:  JMP MAIN
 struct Programs;
 
 impl ProgramFiles for Programs {
-    ghost may_find = { λ _ path file. Unit {0} };
+    ghost known = { λ _. record { may_find = λ path file. Unit {0}; may_be_at = λ path found. Unit {0} } };
 
     fn read(&self, alloc: Global, path: &str) -> Result<FileText, AllocError> {
         match path {
             "letter.asm" => Ok(FileText::Text(Text::copy_of(alloc, LETTER)?)),
-            "letters.asm" => Ok(FileText::Text(Text::copy_of(alloc, LETTERS)?)),
+            "letters.asm" | "./letters.asm" => Ok(FileText::Text(Text::copy_of(alloc, LETTERS)?)),
             "loop.asm" => Ok(FileText::Text(Text::copy_of(alloc, LOOP)?)),
             _ => Ok(FileText::Missing),
+        }
+    }
+
+    fn canonical(&self, alloc: Global, path: &str) -> Result<Option<Text>, AllocError> {
+        match path {
+            "letter.asm" => Ok(Some(Text::copy_of(alloc, "/home/letter.asm")?)),
+            "letters.asm" | "./letters.asm" | "/home/letters.asm" => {
+                Ok(Some(Text::copy_of(alloc, "/home/letters.asm")?))
+            }
+            "loop.asm" => Ok(Some(Text::copy_of(alloc, "/home/loop.asm")?)),
+            _ => Ok(None),
         }
     }
 }

@@ -5,6 +5,7 @@ use Rattle.std.specs.Prelude.{
   pos,
   negsuc,
   ◌+◌,
+  ◌-◌,
   ◌≤◌,
   nat_le,
   ◌&&◌,
@@ -24,6 +25,8 @@ use Rattle.std.specs.Prelude.{
   option_map,
   option_and_then,
   unwrap_or,
+  Result,
+  ok_or,
   codes,
 }
 use Rattle.std.specs.Str.{bytes_eq}
@@ -45,6 +48,7 @@ use Rattle.dap_messages.specs.declared.message.BreakpointOptions.{BreakpointOpti
 use Rattle.dap_editor.specs.declared.request.LineBreakpoint.{LineBreakpoint}
 use Rattle.dap_editor.specs.declared.request.FunctionBreakpoint.{FunctionBreakpoint}
 use Rattle.dap_editor.specs.declared.request.DataBreakpoint.{DataBreakpoint}
+use Rattle.dap_editor.specs.declared.request.InstructionBreakpoint.{InstructionBreakpoint}
 
 -- ---- where they stand
 
@@ -59,6 +63,14 @@ kind_or kind absent (Some d) = kind d
 -- the same, or a default if the argument is absent
 abbrev pub optional : {T : Type 0} → Text → (Data → Option T) → T → Data → Option T
 optional key kind absent request = option_and_then (kind_or kind absent) (argument_at key request)
+
+-- a required argument, or its name if it isn't of its kind
+abbrev pub required_value : {T : Type 0} → Text → (Data → Option T) → Data → Result T Text
+required_value key kind request = ok_or (required_argument key kind request) key
+
+-- the same of one that may be absent
+abbrev pub value_or : {T : Type 0} → Text → (Data → Option T) → T → Data → Result T Text
+value_or key kind absent request = ok_or (optional key kind absent request) key
 
 -- ---- their kinds
 
@@ -79,6 +91,11 @@ shift limit d = option_and_then (shift_within limit) (option_and_then as_i64 (as
 abbrev pub IsBackWithin : ℕ → SignedOffset → Type 0
 IsBackWithin limit (Forward n) = Unit {0}
 IsBackWithin limit (Back n) = n ≤ limit
+
+-- the address at this distance from another, if there is one
+abbrev pub address_at : ℕ → SignedOffset → Option ℕ
+address_at from (Forward n) = if nat_le (from + n) 65535 then Some (from + n) else None
+address_at from (Back n) = if nat_le n from then Some (from - n) else None
 
 -- `repl`, `watch`, or any other text
 abbrev pub context_named : Text → EvaluateContext
@@ -177,6 +194,27 @@ data_breakpoint_of d =
     })
     (text_at (codes "dataId") d)
 
+-- forward or back in bytes; not at all if it is absent
+abbrev pub offset_in : Data → Option SignedOffset
+offset_in d = kind_or (shift 4294967295) (Forward 0) (get (codes "offset") d)
+
+-- an address, if there is one, by a reference and an offset
+abbrev pub place_of : Data → Option (Option ℕ)
+place_of d =
+    option_and_then (λ reference. option_map (λ offset.
+    option_and_then (λ from. address_at from offset) (address_of reference)) (offset_in d))
+    (text_at (codes "instructionReference") d)
+
+-- at an instruction
+abbrev pub instruction_of : Data → Option InstructionBreakpoint
+instruction_of d =
+    option_map (λ place. record {
+      address = place;
+      condition = option_text (codes "condition") d;
+      is_plain = is_plain_data d;
+    })
+    (place_of d)
+
 -- what each is, if each is one
 abbrev pub all_of : {T : Type 0} → (Data → Option T) → Items → Option (List T)
 all_of kind no_items = Some []
@@ -194,6 +232,9 @@ functions d = option_and_then (all_of function_of) (breakpoints d)
 
 abbrev pub data_breakpoints : Data → Option (List DataBreakpoint)
 data_breakpoints d = option_and_then (all_of data_breakpoint_of) (breakpoints d)
+
+abbrev pub instructions : Data → Option (List InstructionBreakpoint)
+instructions d = option_and_then (all_of instruction_of) (breakpoints d)
 
 -- the bytes that a text has in base64 (RFC 4648, section 4: the standard alphabet, padded)
 unfoldable pub bytes_of : Text → Option Bytes

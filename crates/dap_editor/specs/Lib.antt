@@ -2,3 +2,4 @@ pub mod Argument
 pub mod Answer
 pub mod Table
 pub mod Reading
+pub mod Paths

@@ -12,8 +12,12 @@ use Rattle.std.specs.Prelude.{
   None,
   is_some,
   option_and_then,
+  Result,
+  Ok,
+  Err,
   codes,
 }
+use Rattle.base_text.specs.Bytes.{Text}
 use Rattle.serde_json.specs.Data.{Data, string}
 use Rattle.serde_json.specs.Find.{get, as_null}
 use Rattle.dap_answers.specs.Json.{object_of, whole_number}
@@ -23,7 +27,8 @@ use Rattle.dap_talk.specs.Reading.{bad_arguments, request, reading}
 use Rattle.dap_editor.specs.declared.name.EditorName.{EditorName}
 use Rattle.dap_editor.specs.declared.request.EditorCommand.{EditorCommand}
 use Rattle.dap_editor.specs.declared.request.EditorCommand.TheVariants as command
-use Rattle.dap_editor.specs.declared.request.RequestFault.TheVariants.{NotRequest, UnknownCommand, Arguments}
+use Rattle.dap_editor.specs.declared.request.RequestFault.TheVariants.{NotRequest, UnknownCommand}
+use Rattle.dap_editor.specs.declared.request.RequestFault.TheVariants.{Arguments, Argument}
 use Rattle.dap_editor.specs.declared.request.RequestContent.{RequestContent}
 use Rattle.dap_editor.specs.declared.request.RequestContent.TheVariants.{Board, Editor, Faulty}
 use Rattle.dap_editor.specs.declared.request.EditorRequest.{EditorRequest}
@@ -55,10 +60,10 @@ asked_of_board (unknown_command seq command) = Faulty UnknownCommand
 asked_of_board (bad_arguments seq command) = Faulty Arguments
 asked_of_board (request seq command) = Board command
 
--- by a command of editors
-abbrev pub asked_of_editor : Option EditorCommand → RequestContent
-asked_of_editor None = Faulty Arguments
-asked_of_editor (Some c) = Editor c
+-- by a command of editors, or the name of its first bad argument
+abbrev pub asked_of_editor : Result EditorCommand Text → RequestContent
+asked_of_editor (Ok c) = Editor c
+asked_of_editor (Err name) = Faulty (Argument name)
 
 abbrev pub asked_by : Option EditorName → Data → RequestContent
 asked_by (Some name) d = asked_of_editor (command_asked name d)
@@ -87,6 +92,7 @@ abbrev pub IsCommandBounded : EditorCommand → Type 0
 IsCommandBounded (command.SetBreakpoints path lines) = length lines ≤ 256
 IsCommandBounded (command.SetFunctionBreakpoints functions) = length functions ≤ 256
 IsCommandBounded (command.SetDataBreakpoints breakpoints) = length breakpoints ≤ 256
+IsCommandBounded (command.SetInstructionBreakpoints breakpoints) = length breakpoints ≤ 256
 IsCommandBounded (command.WriteMemory to offset bytes) = length bytes ≤ 65536
 IsCommandBounded (command.Disassemble from offset instructions count) =
     (1 ≤ count) × (count ≤ 1024) × IsBackWithin 65536 instructions

@@ -1,7 +1,6 @@
 -- The commands of editors (Debug Adapter Protocol, "Requests"): how each is spelled, and what it asks for by
 -- its arguments.
-use Rattle.std.specs.Prelude.{ℕ, false, not, List, [], ◌∷◌, Option, Some, option_map, option_and_then}
-use Rattle.std.specs.Prelude.{find, codes}
+use Rattle.std.specs.Prelude.{ℕ, false, not, List, [], ◌∷◌, Option, Result, Ok, Err, find, codes}
 use Rattle.std.specs.Str.{bytes_eq}
 use Rattle.base_text.specs.Bytes.{Text}
 use Rattle.serde_json.specs.Data.{Data}
@@ -15,8 +14,9 @@ use Rattle.dap_editor.specs.declared.request.SignedOffset.TheVariants.{Forward}
 use Rattle.dap_editor.specs.declared.request.EvaluateContext.TheVariants.{Other}
 use Rattle.dap_editor.specs.declared.request.EditorCommand.{EditorCommand}
 use Rattle.dap_editor.specs.declared.request.EditorCommand.TheVariants as command
-use Rattle.dap_editor.specs.Argument.{required_argument, optional, address, shift, context, functions, base64}
-use Rattle.dap_editor.specs.Argument.{granularity, filters, no_filters, lines, data_breakpoints}
+use Rattle.dap_editor.specs.Argument.{required_value, value_or, address, shift, context, base64}
+use Rattle.dap_editor.specs.Argument.{granularity, filters, no_filters}
+use Rattle.dap_editor.specs.Argument.{lines, functions, data_breakpoints, instructions}
 
 abbrev pub spelling_of : EditorName → Text
 spelling_of name.Initialize = codes "initialize"
@@ -28,6 +28,7 @@ spelling_of name.SetFunctionBreakpoints = codes "setFunctionBreakpoints"
 spelling_of name.SetExceptionBreakpoints = codes "setExceptionBreakpoints"
 spelling_of name.DataBreakpointInfo = codes "dataBreakpointInfo"
 spelling_of name.SetDataBreakpoints = codes "setDataBreakpoints"
+spelling_of name.SetInstructionBreakpoints = codes "setInstructionBreakpoints"
 spelling_of name.BreakpointLocations = codes "breakpointLocations"
 spelling_of name.ExceptionInfo = codes "exceptionInfo"
 spelling_of name.Evaluate = codes "evaluate"
@@ -43,9 +44,10 @@ spelling_of name.Goto = codes "goto"
 -- ---- what each asks for
 
 infixr 20 ◌then_with◌
--- both values, if both are there
-abbrev pub ◌then_with◌ : {A B : Type 0} → Option A → (A → Option B) → Option B
-a then_with f = option_and_then f a
+-- with the value of an argument, or the name of the first bad one
+abbrev pub ◌then_with◌ : {A B : Type 0} → Result A Text → (A → Result B Text) → Result B Text
+Ok value then_with f = f value
+Err name then_with f = Err name
 
 abbrev pub byte : Data → Option ℕ
 byte = whole_between 0 255
@@ -57,30 +59,31 @@ abbrev pub any_number : Data → Option ℕ
 any_number = whole_between 0 4294967295
 
 -- a number of bytes after a place, or before it
-abbrev pub offset : Data → Option SignedOffset
-offset = optional (codes "offset") (shift 4294967295) (Forward 0)
+abbrev pub offset : Data → Result SignedOffset Text
+offset = value_or (codes "offset") (shift 4294967295) (Forward 0)
 
-abbrev pub memory_reference : Data → Option ℕ
-memory_reference = required_argument (codes "memoryReference") address
+abbrev pub memory_reference : Data → Result ℕ Text
+memory_reference = required_value (codes "memoryReference") address
 
-abbrev pub initialize_asked : Data → Option EditorCommand
+abbrev pub initialize_asked : Data → Result EditorCommand Text
 initialize_asked d =
-    optional (codes "supportsInvalidatedEvent") as_bool false d then_with λ invalidated.
-    optional (codes "supportsMemoryEvent") as_bool false d then_with λ memory.
-    Some (command.Initialize (record { invalidated = invalidated; memory = memory }))
+    value_or (codes "supportsInvalidatedEvent") as_bool false d then_with λ invalidated.
+    value_or (codes "supportsMemoryEvent") as_bool false d then_with λ memory.
+    Ok (command.Initialize (record { invalidated = invalidated; memory = memory }))
 
-abbrev pub launch_asked : Data → Option EditorCommand
+abbrev pub launch_asked : Data → Result EditorCommand Text
 launch_asked d =
-    required_argument (codes "program") as_str d then_with λ program.
-    optional (codes "stopOnEntry") as_bool false d then_with λ stops_on_entry.
-    optional (codes "stopAtEnd") as_bool false d then_with λ stops_at_end.
-    optional (codes "noDebug") as_bool false d then_with λ only_runs.
-    optional (codes "aliases") as_bool false d then_with λ has_aliases.
-    optional (codes "switches") byte 0 d then_with λ switches.
-    optional (codes "input") as_str [] d then_with λ input.
-    optional (codes "watchCommands") as_bool false d then_with λ has_watch_commands.
-    Some (command.Launch (record {
+    required_value (codes "program") as_str d then_with λ program.
+    value_or (codes "stopOnEntry") as_bool false d then_with λ stops_on_entry.
+    value_or (codes "stopAtEnd") as_bool false d then_with λ stops_at_end.
+    value_or (codes "noDebug") as_bool false d then_with λ only_runs.
+    value_or (codes "aliases") as_bool false d then_with λ has_aliases.
+    value_or (codes "switches") byte 0 d then_with λ switches.
+    value_or (codes "input") as_str [] d then_with λ input.
+    value_or (codes "watchCommands") as_bool false d then_with λ has_watch_commands.
+    Ok (command.Launch (record {
       program = program;
+      canonical = program;
       stops_on_entry = stops_on_entry;
       stops_at_end = stops_at_end;
       is_debugged = not only_runs;
@@ -91,24 +94,24 @@ launch_asked d =
     }))
 
 -- the path of a source
-abbrev pub source : Data → Option Text
-source = required_argument (codes "source") (text_at (codes "path"))
+abbrev pub source : Data → Result Text Text
+source = required_value (codes "source") (text_at (codes "path"))
 
 -- no list of breakpoints is an empty one
-abbrev pub set_breakpoints_asked : Data → Option EditorCommand
+abbrev pub set_breakpoints_asked : Data → Result EditorCommand Text
 set_breakpoints_asked d =
     source d then_with λ path.
-    optional (codes "breakpoints") lines [] d then_with λ breakpoints.
-    Some (command.SetBreakpoints path breakpoints)
+    value_or (codes "breakpoints") lines [] d then_with λ breakpoints.
+    Ok (command.SetBreakpoints path breakpoints)
 
 -- an expression if no scope is named, and one byte if no number of them is
-abbrev pub data_breakpoint_info_asked : Data → Option EditorCommand
+abbrev pub data_breakpoint_info_asked : Data → Result EditorCommand Text
 data_breakpoint_info_asked d =
-    optional (codes "variablesReference") any_number 0 d then_with λ scope.
-    required_argument (codes "name") as_str d then_with λ text.
-    optional (codes "bytes") any_number 1 d then_with λ count.
-    optional (codes "asAddress") as_bool false d then_with λ is_address.
-    Some (command.DataBreakpointInfo (record {
+    value_or (codes "variablesReference") any_number 0 d then_with λ scope.
+    required_value (codes "name") as_str d then_with λ text.
+    value_or (codes "bytes") any_number 1 d then_with λ count.
+    value_or (codes "asAddress") as_bool false d then_with λ is_address.
+    Ok (command.DataBreakpointInfo (record {
       scope = scope;
       name = text;
       count = count;
@@ -116,73 +119,82 @@ data_breakpoint_info_asked d =
     }))
 
 -- the last line is the first one if it is absent
-abbrev pub breakpoint_locations_asked : Data → Option EditorCommand
+abbrev pub breakpoint_locations_asked : Data → Result EditorCommand Text
 breakpoint_locations_asked d =
     source d then_with λ path.
-    required_argument (codes "line") any_number d then_with λ first.
-    optional (codes "endLine") any_number first d then_with λ last.
-    Some (command.BreakpointLocations path first last)
+    required_value (codes "line") any_number d then_with λ first.
+    value_or (codes "endLine") any_number first d then_with λ last.
+    Ok (command.BreakpointLocations path first last)
 
-abbrev pub evaluate_asked : Data → Option EditorCommand
+abbrev pub evaluate_asked : Data → Result EditorCommand Text
 evaluate_asked d =
-    required_argument (codes "expression") as_str d then_with λ expression.
-    optional (codes "context") context Other d then_with λ where_shown.
-    Some (command.Evaluate expression where_shown)
+    required_value (codes "expression") as_str d then_with λ expression.
+    value_or (codes "context") context Other d then_with λ where_shown.
+    Ok (command.Evaluate expression where_shown)
 
-abbrev pub read_memory_asked : Data → Option EditorCommand
+abbrev pub read_memory_asked : Data → Result EditorCommand Text
 read_memory_asked d =
     memory_reference d then_with λ from.
     offset d then_with λ bytes.
-    required_argument (codes "count") any_number d then_with λ count.
-    Some (command.ReadMemory from bytes count)
+    required_value (codes "count") any_number d then_with λ count.
+    Ok (command.ReadMemory from bytes count)
 
-abbrev pub write_memory_asked : Data → Option EditorCommand
+abbrev pub write_memory_asked : Data → Result EditorCommand Text
 write_memory_asked d =
     memory_reference d then_with λ to.
     offset d then_with λ bytes.
-    required_argument (codes "data") base64 d then_with λ content.
-    Some (command.WriteMemory to bytes content)
+    required_value (codes "data") base64 d then_with λ content.
+    Ok (command.WriteMemory to bytes content)
 
-abbrev pub disassemble_asked : Data → Option EditorCommand
+abbrev pub disassemble_asked : Data → Result EditorCommand Text
 disassemble_asked d =
     memory_reference d then_with λ from.
     offset d then_with λ bytes.
-    optional (codes "instructionOffset") (shift 65536) (Forward 0) d then_with λ instructions.
-    required_argument (codes "instructionCount") (whole_between 1 1024) d then_with λ count.
-    Some (command.Disassemble from bytes instructions count)
+    value_or (codes "instructionOffset") (shift 65536) (Forward 0) d then_with λ instructions.
+    required_value (codes "instructionCount") (whole_between 1 1024) d then_with λ count.
+    Ok (command.Disassemble from bytes instructions count)
 
-abbrev pub goto_targets_asked : Data → Option EditorCommand
+abbrev pub goto_targets_asked : Data → Result EditorCommand Text
 goto_targets_asked d =
     source d then_with λ path.
-    required_argument (codes "line") any_number d then_with λ line.
-    Some (command.GotoTargets path line)
+    required_value (codes "line") any_number d then_with λ line.
+    Ok (command.GotoTargets path line)
 
--- the command that a request makes with this name, if its arguments are as they must be
-abbrev pub command_asked : EditorName → Data → Option EditorCommand
+-- the command that a request makes with this name, or the name of its first bad argument
+abbrev pub command_asked : EditorName → Data → Result EditorCommand Text
 command_asked name.Initialize d = initialize_asked d
 command_asked name.Launch d = launch_asked d
-command_asked name.Restart d = Some command.Restart
-command_asked name.Terminate d = Some command.Terminate
+command_asked name.Restart d = Ok command.Restart
+command_asked name.Terminate d = Ok command.Terminate
 command_asked name.SetBreakpoints d = set_breakpoints_asked d
 command_asked name.SetFunctionBreakpoints d =
-    option_map command.SetFunctionBreakpoints (required_argument (codes "breakpoints") functions d)
+    required_value (codes "breakpoints") functions d then_with λ breakpoints.
+    Ok (command.SetFunctionBreakpoints breakpoints)
 command_asked name.SetExceptionBreakpoints d =
-    option_map command.SetExceptionBreakpoints (optional (codes "filters") filters no_filters d)
+    value_or (codes "filters") filters no_filters d then_with λ wanted.
+    Ok (command.SetExceptionBreakpoints wanted)
 command_asked name.DataBreakpointInfo d = data_breakpoint_info_asked d
 command_asked name.SetDataBreakpoints d =
-    option_map command.SetDataBreakpoints (required_argument (codes "breakpoints") data_breakpoints d)
+    required_value (codes "breakpoints") data_breakpoints d then_with λ breakpoints.
+    Ok (command.SetDataBreakpoints breakpoints)
+command_asked name.SetInstructionBreakpoints d =
+    required_value (codes "breakpoints") instructions d then_with λ breakpoints.
+    Ok (command.SetInstructionBreakpoints breakpoints)
 command_asked name.BreakpointLocations d = breakpoint_locations_asked d
-command_asked name.ExceptionInfo d = Some command.ExceptionInfo
+command_asked name.ExceptionInfo d = Ok command.ExceptionInfo
 command_asked name.Evaluate d = evaluate_asked d
 command_asked name.ReadMemory d = read_memory_asked d
 command_asked name.WriteMemory d = write_memory_asked d
 command_asked name.Disassemble d = disassemble_asked d
-command_asked name.LoadedSources d = Some command.LoadedSources
+command_asked name.LoadedSources d = Ok command.LoadedSources
 command_asked name.StepBack d =
-    option_map command.StepBack (optional (codes "granularity") granularity Line d)
-command_asked name.ReverseContinue d = Some command.ReverseContinue
+    value_or (codes "granularity") granularity Line d then_with λ by.
+    Ok (command.StepBack by)
+command_asked name.ReverseContinue d = Ok command.ReverseContinue
 command_asked name.GotoTargets d = goto_targets_asked d
-command_asked name.Goto d = option_map command.Goto (required_argument (codes "targetId") word d)
+command_asked name.Goto d =
+    required_value (codes "targetId") word d then_with λ target.
+    Ok (command.Goto target)
 
 -- ---- the names
 
@@ -190,9 +202,9 @@ abbrev pub every_name : List EditorName
 every_name =
     name.Initialize ∷ name.Launch ∷ name.Restart ∷ name.Terminate ∷ name.SetBreakpoints ∷
     name.SetFunctionBreakpoints ∷ name.SetExceptionBreakpoints ∷ name.DataBreakpointInfo ∷
-    name.SetDataBreakpoints ∷ name.BreakpointLocations ∷ name.ExceptionInfo ∷ name.Evaluate ∷
-    name.ReadMemory ∷ name.WriteMemory ∷ name.Disassemble ∷ name.LoadedSources ∷ name.StepBack ∷
-    name.ReverseContinue ∷ name.GotoTargets ∷ name.Goto ∷ []
+    name.SetDataBreakpoints ∷ name.SetInstructionBreakpoints ∷ name.BreakpointLocations ∷
+    name.ExceptionInfo ∷ name.Evaluate ∷ name.ReadMemory ∷ name.WriteMemory ∷ name.Disassemble ∷
+    name.LoadedSources ∷ name.StepBack ∷ name.ReverseContinue ∷ name.GotoTargets ∷ name.Goto ∷ []
 
 -- the first of these names that is spelled like the text
 abbrev pub first_named : List EditorName → Text → Option EditorName

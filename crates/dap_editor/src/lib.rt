@@ -6,5 +6,6 @@
 mod arguments;
 pub mod laws;
 mod name;
+pub mod paths;
 pub mod reading;
 pub mod request;

@@ -14,6 +14,7 @@ pub enum EditorName {
     SetExceptionBreakpoints,
     DataBreakpointInfo,
     SetDataBreakpoints,
+    SetInstructionBreakpoints,
     BreakpointLocations,
     ExceptionInfo,
     Evaluate,
@@ -27,7 +28,7 @@ pub enum EditorName {
     Goto,
 }
 
-const EVERY_NAME: [EditorName; 20] = [
+const EVERY_NAME: [EditorName; 21] = [
     EditorName::Initialize,
     EditorName::Launch,
     EditorName::Restart,
@@ -37,6 +38,7 @@ const EVERY_NAME: [EditorName; 20] = [
     EditorName::SetExceptionBreakpoints,
     EditorName::DataBreakpointInfo,
     EditorName::SetDataBreakpoints,
+    EditorName::SetInstructionBreakpoints,
     EditorName::BreakpointLocations,
     EditorName::ExceptionInfo,
     EditorName::Evaluate,
@@ -67,6 +69,7 @@ impl EditorName {
             EditorName::SetExceptionBreakpoints => "setExceptionBreakpoints",
             EditorName::DataBreakpointInfo => "dataBreakpointInfo",
             EditorName::SetDataBreakpoints => "setDataBreakpoints",
+            EditorName::SetInstructionBreakpoints => "setInstructionBreakpoints",
             EditorName::BreakpointLocations => "breakpointLocations",
             EditorName::ExceptionInfo => "exceptionInfo",
             EditorName::Evaluate => "evaluate",

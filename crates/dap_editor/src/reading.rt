@@ -1,5 +1,5 @@
 //! Reading requests: one function for each command that has arguments.
-ghost use Rattle.std.specs.Prelude.{◌≡◌, IfOk, IfSome, OnErr, IsSome, Some};
+ghost use Rattle.std.specs.Prelude.{◌≡◌, IfOk, OnErr, IsSome};
 ghost use Rattle.serde_json.specs.View.{view};
 ghost use Rattle.dap_talk.specs.Reading.{envelope_of, envelope_with, reading};
 ghost use Rattle.dap_editor.specs.Answer.{Answers};
@@ -12,9 +12,10 @@ ghost use Rattle.dap_editor.specs.Reading.{has_null_arguments, bare_request, ask
 ghost use Rattle.dap_editor.specs.Reading.{asked_by, unreadable, editor_request, IsCommandBounded, IsBounded};
 
 use crate::arguments::{
-    byte_or_0, bytes_at, context_or_other, count_at, data_breakpoints_at, filters_or_none,
-    functions_at, granularity, lines_or_none, memory_reference, number_at, number_or, offset,
-    shift_or_0, source_path, text_at, text_or_empty, truth_or_false, word_at,
+    ArgumentFault, byte_or_0, bytes_at, context_or_other, count_at, data_breakpoints_at,
+    filters_or_none, functions_at, granularity_or_line, instructions_at, lines_or_none,
+    memory_reference, number_at, number_or, offset, path_at, shift_or_0, text_at, text_or_empty,
+    truth_or_false, word_at,
 };
 use crate::name::EditorName;
 use crate::request::{
@@ -22,19 +23,18 @@ use crate::request::{
 };
 use base_text::text::Text;
 use dap_answers::object::Object;
-use dap_talk::arguments::ArgumentFault;
 use dap_talk::fault::DapFault;
 use dap_talk::reading::{envelope_of, read_request};
 use serde_json::Value;
 use std::alloc::{AllocError, Global};
 
-fn initialize(request: &Value) -> Option<EditorCommand>
-    ensures value { result ≡ initialize_asked (view request.now) }
-    ensures bounded { IfSome result (λ c. IsCommandBounded c) }
+fn initialize(request: &Value) -> Result<EditorCommand, ArgumentFault>
+    ensures answer { Answers (initialize_asked (view request.now)) result }
+    ensures bounded { IfOk result (λ c. IsCommandBounded c) }
 {
     let invalidated = truth_or_false(request, "supportsInvalidatedEvent")?;
     let memory = truth_or_false(request, "supportsMemoryEvent")?;
-    Some(EditorCommand::Initialize(SupportedEvents {
+    Ok(EditorCommand::Initialize(SupportedEvents {
         invalidated,
         memory,
     }))
@@ -44,20 +44,20 @@ fn launch(alloc: Global, request: &Value) -> Result<EditorCommand, ArgumentFault
     ensures answer { Answers (launch_asked (view request.now)) result }
     ensures bounded { IfOk result (λ c. IsCommandBounded c) }
 {
-    let program = text_at(request, "program").ok_or(ArgumentFault::Arguments)?;
-    let stops_on_entry = truth_or_false(request, "stopOnEntry").ok_or(ArgumentFault::Arguments)?;
-    let stops_at_end = truth_or_false(request, "stopAtEnd").ok_or(ArgumentFault::Arguments)?;
-    let only_runs = truth_or_false(request, "noDebug").ok_or(ArgumentFault::Arguments)?;
-    let has_aliases = truth_or_false(request, "aliases").ok_or(ArgumentFault::Arguments)?;
-    let switches = byte_or_0(request, "switches").ok_or(ArgumentFault::Arguments)?;
-    let input = text_or_empty(request, "input").ok_or(ArgumentFault::Arguments)?;
-    let has_watch_commands = truth_or_false(request, "watchCommands").ok_or(
-        ArgumentFault::Arguments,
-    )?;
+    let program = text_at(request, "program")?;
+    let stops_on_entry = truth_or_false(request, "stopOnEntry")?;
+    let stops_at_end = truth_or_false(request, "stopAtEnd")?;
+    let only_runs = truth_or_false(request, "noDebug")?;
+    let has_aliases = truth_or_false(request, "aliases")?;
+    let switches = byte_or_0(request, "switches")?;
+    let input = text_or_empty(request, "input")?;
+    let has_watch_commands = truth_or_false(request, "watchCommands")?;
+    let canonical = Text::copy_of(alloc, program)?;
     let program = Text::copy_of(alloc, program)?;
     let input = Text::copy_of(alloc, input)?;
     Ok(EditorCommand::Launch(Launch {
         program,
+        canonical,
         stops_on_entry,
         stops_at_end,
         is_debugged: !only_runs,
@@ -72,7 +72,7 @@ fn set_breakpoints(alloc: Global, request: &Value) -> Result<EditorCommand, Argu
     ensures answer { Answers (set_breakpoints_asked (view request.now)) result }
     ensures bounded { IfOk result (λ c. IsCommandBounded c) }
 {
-    let path = source_path(request).ok_or(ArgumentFault::Arguments)?;
+    let path = path_at(request, "source")?;
     let lines = lines_or_none(alloc, request, "breakpoints")?;
     let path = Text::copy_of(alloc, path)?;
     Ok(EditorCommand::SetBreakpoints { path, lines })
@@ -86,21 +86,21 @@ fn set_function_breakpoints(alloc: Global, request: &Value) -> Result<EditorComm
     Ok(EditorCommand::SetFunctionBreakpoints(functions))
 }
 
-fn set_exception_breakpoints(request: &Value) -> Option<EditorCommand>
-    ensures value { result ≡ command_asked EditorName.SetExceptionBreakpoints (view request.now) }
-    ensures bounded { IfSome result (λ c. IsCommandBounded c) }
+fn set_exception_breakpoints(request: &Value) -> Result<EditorCommand, ArgumentFault>
+    ensures answer { Answers (command_asked EditorName.SetExceptionBreakpoints (view request.now)) result }
+    ensures bounded { IfOk result (λ c. IsCommandBounded c) }
 {
-    Some(EditorCommand::SetExceptionBreakpoints(filters_or_none(request)?))
+    Ok(EditorCommand::SetExceptionBreakpoints(filters_or_none(request, "filters")?))
 }
 
 fn data_breakpoint_info(alloc: Global, request: &Value) -> Result<EditorCommand, ArgumentFault>
     ensures answer { Answers (data_breakpoint_info_asked (view request.now)) result }
     ensures bounded { IfOk result (λ c. IsCommandBounded c) }
 {
-    let scope = number_or(request, "variablesReference", 0).ok_or(ArgumentFault::Arguments)?;
-    let name = text_at(request, "name").ok_or(ArgumentFault::Arguments)?;
-    let count = number_or(request, "bytes", 1).ok_or(ArgumentFault::Arguments)?;
-    let is_address = truth_or_false(request, "asAddress").ok_or(ArgumentFault::Arguments)?;
+    let scope = number_or(request, "variablesReference", 0)?;
+    let name = text_at(request, "name")?;
+    let count = number_or(request, "bytes", 1)?;
+    let is_address = truth_or_false(request, "asAddress")?;
     let name = Text::copy_of(alloc, name)?;
     Ok(EditorCommand::DataBreakpointInfo(DataQuery {
         scope,
@@ -118,48 +118,59 @@ fn set_data_breakpoints(alloc: Global, request: &Value) -> Result<EditorCommand,
     Ok(EditorCommand::SetDataBreakpoints(breakpoints))
 }
 
+fn set_instruction_breakpoints(
+    alloc: Global,
+    request: &Value,
+) -> Result<EditorCommand, ArgumentFault>
+    ensures answer { Answers (command_asked EditorName.SetInstructionBreakpoints (view request.now)) result }
+    ensures bounded { IfOk result (λ c. IsCommandBounded c) }
+{
+    let breakpoints = instructions_at(alloc, request, "breakpoints")?;
+    Ok(EditorCommand::SetInstructionBreakpoints(breakpoints))
+}
+
 fn breakpoint_locations(alloc: Global, request: &Value) -> Result<EditorCommand, ArgumentFault>
     ensures answer { Answers (breakpoint_locations_asked (view request.now)) result }
     ensures bounded { IfOk result (λ c. IsCommandBounded c) }
 {
-    let path = source_path(request).ok_or(ArgumentFault::Arguments)?;
-    let first = number_at(request, "line").ok_or(ArgumentFault::Arguments)?;
-    let last = number_or(request, "endLine", first).ok_or(ArgumentFault::Arguments)?;
+    let path = path_at(request, "source")?;
+    let first = number_at(request, "line")?;
+    let last = number_or(request, "endLine", first)?;
     let path = Text::copy_of(alloc, path)?;
     Ok(EditorCommand::BreakpointLocations { path, first, last })
 }
 
-fn step_back(request: &Value) -> Option<EditorCommand>
-    ensures value { result ≡ command_asked EditorName.StepBack (view request.now) }
-    ensures bounded { IfSome result (λ c. IsCommandBounded c) }
+fn step_back(request: &Value) -> Result<EditorCommand, ArgumentFault>
+    ensures answer { Answers (command_asked EditorName.StepBack (view request.now)) result }
+    ensures bounded { IfOk result (λ c. IsCommandBounded c) }
 {
-    Some(EditorCommand::StepBack(granularity(request)?))
+    Ok(EditorCommand::StepBack(granularity_or_line(request, "granularity")?))
 }
 
 fn goto_targets(alloc: Global, request: &Value) -> Result<EditorCommand, ArgumentFault>
     ensures answer { Answers (goto_targets_asked (view request.now)) result }
     ensures bounded { IfOk result (λ c. IsCommandBounded c) }
 {
-    let path = source_path(request).ok_or(ArgumentFault::Arguments)?;
-    let line = number_at(request, "line").ok_or(ArgumentFault::Arguments)?;
+    let path = path_at(request, "source")?;
+    let line = number_at(request, "line")?;
     let path = Text::copy_of(alloc, path)?;
     Ok(EditorCommand::GotoTargets { path, line })
 }
 
-fn goto(request: &Value) -> Option<EditorCommand>
-    ensures value { result ≡ command_asked EditorName.Goto (view request.now) }
-    ensures bounded { IfSome result (λ c. IsCommandBounded c) }
+fn goto(request: &Value) -> Result<EditorCommand, ArgumentFault>
+    ensures answer { Answers (command_asked EditorName.Goto (view request.now)) result }
+    ensures bounded { IfOk result (λ c. IsCommandBounded c) }
 {
     let target = word_at(request, "targetId")?;
-    Some(EditorCommand::Goto { target })
+    Ok(EditorCommand::Goto { target })
 }
 
 fn evaluate(alloc: Global, request: &Value) -> Result<EditorCommand, ArgumentFault>
     ensures answer { Answers (evaluate_asked (view request.now)) result }
     ensures bounded { IfOk result (λ c. IsCommandBounded c) }
 {
-    let expression = text_at(request, "expression").ok_or(ArgumentFault::Arguments)?;
-    let context = context_or_other(request, "context").ok_or(ArgumentFault::Arguments)?;
+    let expression = text_at(request, "expression")?;
+    let context = context_or_other(request, "context")?;
     let expression = Text::copy_of(alloc, expression)?;
     Ok(EditorCommand::Evaluate {
         expression,
@@ -167,14 +178,14 @@ fn evaluate(alloc: Global, request: &Value) -> Result<EditorCommand, ArgumentFau
     })
 }
 
-fn read_memory(request: &Value) -> Option<EditorCommand>
-    ensures value { result ≡ read_memory_asked (view request.now) }
-    ensures bounded { IfSome result (λ c. IsCommandBounded c) }
+fn read_memory(request: &Value) -> Result<EditorCommand, ArgumentFault>
+    ensures answer { Answers (read_memory_asked (view request.now)) result }
+    ensures bounded { IfOk result (λ c. IsCommandBounded c) }
 {
     let address = memory_reference(request)?;
     let offset = offset(request)?;
     let count = number_at(request, "count")?;
-    Some(EditorCommand::ReadMemory {
+    Ok(EditorCommand::ReadMemory {
         address,
         offset,
         count,
@@ -185,8 +196,8 @@ fn write_memory(alloc: Global, request: &Value) -> Result<EditorCommand, Argumen
     ensures answer { Answers (write_memory_asked (view request.now)) result }
     ensures bounded { IfOk result (λ c. IsCommandBounded c) }
 {
-    let address = memory_reference(request).ok_or(ArgumentFault::Arguments)?;
-    let offset = offset(request).ok_or(ArgumentFault::Arguments)?;
+    let address = memory_reference(request)?;
+    let offset = offset(request)?;
     let bytes = bytes_at(alloc, request, "data")?;
     Ok(EditorCommand::WriteMemory {
         address,
@@ -195,27 +206,20 @@ fn write_memory(alloc: Global, request: &Value) -> Result<EditorCommand, Argumen
     })
 }
 
-fn disassemble(request: &Value) -> Option<EditorCommand>
-    ensures value { result ≡ disassemble_asked (view request.now) }
-    ensures bounded { IfSome result (λ c. IsCommandBounded c) }
+fn disassemble(request: &Value) -> Result<EditorCommand, ArgumentFault>
+    ensures answer { Answers (disassemble_asked (view request.now)) result }
+    ensures bounded { IfOk result (λ c. IsCommandBounded c) }
 {
     let address = memory_reference(request)?;
     let offset = offset(request)?;
     let instruction_offset = shift_or_0(request, "instructionOffset", 65536)?;
     let instruction_count = count_at(request, "instructionCount")?;
-    Some(EditorCommand::Disassemble {
+    Ok(EditorCommand::Disassemble {
         address,
         offset,
         instruction_offset,
         instruction_count,
     })
-}
-
-fn or_refused(command: Option<EditorCommand>) -> Result<EditorCommand, ArgumentFault>
-    ensures answer { Answers command result }
-    ensures same { IfOk result (λ c. command ≡ Some c) }
-{
-    command.ok_or(ArgumentFault::Arguments)
 }
 
 fn read_command(
@@ -227,26 +231,27 @@ fn read_command(
     ensures bounded { IfOk result (λ c. IsCommandBounded c) }
 {
     match name {
-        EditorName::Initialize => or_refused(initialize(request)),
+        EditorName::Initialize => initialize(request),
         EditorName::Launch => launch(alloc, request),
         EditorName::Restart => Ok(EditorCommand::Restart),
         EditorName::Terminate => Ok(EditorCommand::Terminate),
         EditorName::SetBreakpoints => set_breakpoints(alloc, request),
         EditorName::SetFunctionBreakpoints => set_function_breakpoints(alloc, request),
-        EditorName::SetExceptionBreakpoints => or_refused(set_exception_breakpoints(request)),
+        EditorName::SetExceptionBreakpoints => set_exception_breakpoints(request),
         EditorName::DataBreakpointInfo => data_breakpoint_info(alloc, request),
         EditorName::SetDataBreakpoints => set_data_breakpoints(alloc, request),
+        EditorName::SetInstructionBreakpoints => set_instruction_breakpoints(alloc, request),
         EditorName::BreakpointLocations => breakpoint_locations(alloc, request),
         EditorName::ExceptionInfo => Ok(EditorCommand::ExceptionInfo),
         EditorName::Evaluate => evaluate(alloc, request),
-        EditorName::ReadMemory => or_refused(read_memory(request)),
+        EditorName::ReadMemory => read_memory(request),
         EditorName::WriteMemory => write_memory(alloc, request),
-        EditorName::Disassemble => or_refused(disassemble(request)),
+        EditorName::Disassemble => disassemble(request),
         EditorName::LoadedSources => Ok(EditorCommand::LoadedSources),
-        EditorName::StepBack => or_refused(step_back(request)),
+        EditorName::StepBack => step_back(request),
         EditorName::ReverseContinue => Ok(EditorCommand::ReverseContinue),
         EditorName::GotoTargets => goto_targets(alloc, request),
-        EditorName::Goto => or_refused(goto(request)),
+        EditorName::Goto => goto(request),
     }
 }
 
@@ -261,7 +266,10 @@ fn read_for_editor(
     match read_command(alloc, name, request) {
         Ok(command) => Ok(RequestContent::Editor(command)),
         Err(ArgumentFault::OutOfMemory) => Err(AllocError),
-        Err(ArgumentFault::Arguments) => Ok(RequestContent::Faulty(RequestFault::Arguments)),
+        Err(ArgumentFault::Argument(name)) => {
+            let name = Text::copy_of(alloc, name)?;
+            Ok(RequestContent::Faulty(RequestFault::Argument(name)))
+        }
     }
 }
 

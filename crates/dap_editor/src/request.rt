@@ -1,5 +1,6 @@
 //! Requests of an editor.
 ghost use Rattle.std.specs.Prelude.{◌≡◌};
+ghost use Rattle.dap_editor.specs.Argument.{address_at};
 
 use base_text::sequence::{Bytes, Sequence};
 use base_text::text::Text;
@@ -12,6 +13,18 @@ use lab_shown::step::Granularity;
 pub enum SignedOffset {
     Forward(u32),
     Back(u32),
+}
+
+impl SignedOffset {
+    /// The address at this distance from another, if there is one.
+    pub fn after(self, address: u16) -> Option<u16>
+        ensures { result ≡ address_at address self }
+    {
+        match self {
+            SignedOffset::Forward(n) => address.checked_add(u16::try_from(n).ok()?),
+            SignedOffset::Back(n) => address.checked_sub(u16::try_from(n).ok()?),
+        }
+    }
 }
 
 /// Where the editor shows the value of an expression (Debug Adapter Protocol, `evaluate`).
@@ -37,6 +50,8 @@ pub struct SupportedEvents {
 pub struct Launch {
     /// The path of the program's text, as the editor gave it.
     pub program: Text,
+    /// The same file's canonical path, if it has one; otherwise the same path.
+    pub canonical: Text,
     pub stops_on_entry: bool,
     /// Whether the program can still be looked at where its run ends.
     pub stops_at_end: bool,
@@ -94,6 +109,16 @@ pub struct DataBreakpoint {
     pub is_plain: bool,
 }
 
+/// A breakpoint at an instruction.
+#[derive(Drop)]
+pub struct InstructionBreakpoint {
+    /// Where the instruction begins; `None` if there is no such address.
+    pub address: Option<u16>,
+    pub condition: Option<Text>,
+    /// Whether it asks for nothing else, such as a hit count.
+    pub is_plain: bool,
+}
+
 /// The ends of a run at which an editor wants it held (Debug Adapter Protocol, `setExceptionBreakpoints`).
 #[derive(Clone, Copy)]
 pub struct ExceptionFilters {
@@ -121,6 +146,8 @@ pub enum EditorCommand {
     DataBreakpointInfo(DataQuery),
     /// The breakpoints where places are changed, at most 256, in the order of the request.
     SetDataBreakpoints(Sequence<DataBreakpoint>),
+    /// The breakpoints at instructions, at most 256, in the order of the request.
+    SetInstructionBreakpoints(Sequence<InstructionBreakpoint>),
     /// Where a source can have breakpoints, from the first line to the last.
     BreakpointLocations {
         path: Text,
@@ -167,13 +194,15 @@ pub enum EditorCommand {
 }
 
 /// Why a request can't be carried out, whatever the program is.
-#[derive(Clone, Copy)]
+#[derive(Drop)]
 pub enum RequestFault {
     /// Not JSON, or not an object with the type `request`, a number and a command.
     NotRequest,
     UnknownCommand,
-    /// An argument is missing, of the wrong type, or out of its bounds.
+    /// An argument of a command that the kernel has too is missing, of the wrong type, or out of its bounds.
     Arguments,
+    /// The argument with this name is.
+    Argument(Text),
 }
 
 /// What a request asks for.

@@ -20,6 +20,7 @@ enum Note {
     Wrong(&'static str),
     NotSupported,
     NoLabel,
+    NoAddress,
     TooMany,
     TooManyData,
 }
@@ -33,6 +34,7 @@ fn breakpoint_note(alloc: Global, note: &Note) -> Result<BreakpointNote, AllocEr
         Note::Wrong(why) => Ok(BreakpointNote::Wrong(Text::copy_of(alloc, why)?)),
         Note::NotSupported => Ok(BreakpointNote::NotSupported),
         Note::NoLabel => Ok(BreakpointNote::NoLabel),
+        Note::NoAddress => Ok(BreakpointNote::NoAddress),
         Note::TooMany => Ok(BreakpointNote::TooMany),
         Note::TooManyData => Ok(BreakpointNote::TooManyData),
     }
@@ -46,6 +48,10 @@ enum Shape {
     Breakpoints(&'static [(u32, Option<u32>, bool)]),
     // A breakpoint on a line, and its message.
     Noted(u32, Note),
+    // The message of one that isn't on a line.
+    Unplaced(Note),
+    // A breakpoint at an address, and its line.
+    Instruction(u16, Option<u32>),
     // Identifier and description.
     DataInfo(Option<&'static str>, &'static str),
     Locations(&'static [u32]),
@@ -69,6 +75,7 @@ fn placed(row: (u32, Option<u32>, bool)) -> PlacedBreakpoint {
     PlacedBreakpoint {
         id: row.0,
         line: row.1,
+        address: None,
         options: NO_OPTIONS,
         is_verified: row.2,
         note: None,
@@ -86,17 +93,28 @@ fn breakpoints(
     Ok(list)
 }
 
-fn noted(alloc: Global, line: u32, row: &Note) -> Result<Sequence<PlacedBreakpoint>, AllocError> {
-    let note = breakpoint_note(alloc, row)?;
+// The response for one breakpoint, which is verified if it has no message.
+fn one_breakpoint(
+    alloc: Global,
+    address: Option<u16>,
+    line: Option<u32>,
+    note: Option<BreakpointNote>,
+) -> Result<EditorBody, AllocError> {
     let mut list = Sequence::new(alloc);
     list.push(PlacedBreakpoint {
         id: 1,
-        line: Some(line),
+        line,
+        address,
         options: NO_OPTIONS,
-        is_verified: false,
-        note: Some(note),
+        is_verified: note.is_none(),
+        note,
     })?;
-    Ok(list)
+    Ok(EditorBody::Breakpoints(list))
+}
+
+fn noted(alloc: Global, line: Option<u32>, note: &Note) -> Result<EditorBody, AllocError> {
+    let note = breakpoint_note(alloc, note)?;
+    one_breakpoint(alloc, None, line, Some(note))
 }
 
 fn undefined(opcode: u8, pc: u16) -> UndefinedOpcode {
@@ -141,7 +159,9 @@ fn body(alloc: Global, shape: &Shape) -> Result<EditorBody, AllocError> {
         Shape::Threads => Ok(EditorBody::Board(Body::Threads)),
         Shape::Capabilities => Ok(EditorBody::Capabilities),
         Shape::Breakpoints(rows) => Ok(EditorBody::Breakpoints(breakpoints(alloc, rows)?)),
-        Shape::Noted(line, note) => Ok(EditorBody::Breakpoints(noted(alloc, *line, note)?)),
+        Shape::Noted(line, note) => noted(alloc, Some(*line), note),
+        Shape::Unplaced(note) => noted(alloc, None, note),
+        Shape::Instruction(address, line) => one_breakpoint(alloc, Some(*address), *line, None),
         Shape::DataInfo(id, description) => data_info(alloc, id, description),
         Shape::Locations(lines) => Ok(EditorBody::Locations(Sequence::from(lines.to_vec(alloc)?))),
         Shape::Exception(opcode, pc) => Ok(EditorBody::Exception(undefined(*opcode, *pc))),
@@ -177,7 +197,7 @@ fn is_written(alloc: Global, message: &Message, json: &str) -> Result<bool, Allo
     Ok(text?.as_str() == json)
 }
 
-const BODIES: [(Shape, &str); 29] = [
+const BODIES: [(Shape, &str); 32] = [
     (Shape::Threads, r#"{"threads":[{"id":1,"name":"8080"}]}"#),
     (
         Shape::Capabilities,
@@ -189,8 +209,8 @@ const BODIES: [(Shape, &str); 29] = [
             r#""supportsDataBreakpoints":true,"supportsDisassembleRequest":true,"#,
             r#""supportsEvaluateForHovers":true,"supportsExceptionInfoRequest":true,"#,
             r#""supportsFunctionBreakpoints":true,"supportsGotoTargetsRequest":true,"#,
-            r#""supportsLoadedSourcesRequest":true,"supportsLogPoints":true,"#,
-            r#""supportsReadMemoryRequest":true,"#,
+            r#""supportsInstructionBreakpoints":true,"supportsLoadedSourcesRequest":true,"#,
+            r#""supportsLogPoints":true,"supportsReadMemoryRequest":true,"#,
             r#""supportsRestartRequest":true,"supportsSetVariable":true,"supportsStepBack":true,"#,
             r#""supportsSteppingGranularity":true,"supportsTerminateRequest":true,"#,
             r#""supportsWriteMemoryRequest":true}"#,
@@ -237,6 +257,18 @@ const BODIES: [(Shape, &str); 29] = [
             r#"{"breakpoints":[{"id":1,"line":1,"message":"the program has no such label","#,
             r#""verified":false}]}"#,
         ),
+    ),
+    (
+        Shape::Unplaced(Note::NoAddress),
+        r#"{"breakpoints":[{"id":1,"message":"there is no such address","verified":false}]}"#,
+    ),
+    (
+        Shape::Instruction(0x010b, None),
+        r#"{"breakpoints":[{"id":1,"instructionReference":"0x010b","verified":true}]}"#,
+    ),
+    (
+        Shape::Instruction(0xffff, Some(12)),
+        r#"{"breakpoints":[{"id":1,"instructionReference":"0xffff","line":12,"verified":true}]}"#,
     ),
     (
         Shape::Noted(1, Note::TooMany),

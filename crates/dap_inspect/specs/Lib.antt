@@ -3,3 +3,4 @@ pub mod Expressions
 pub mod Memory
 pub mod Instructions
 pub mod Labels
+pub mod Words

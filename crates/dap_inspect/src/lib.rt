@@ -2,7 +2,8 @@
 // `evaluate` returns a register, or the value of an expression of the assembler over the kept symbols.
 // `read_memory` returns bytes up to the last address. `code_lines` lists code; `before_instructions` goes
 // back over it, by the statements that are known to begin before. `line_of_label` returns the line of a
-// symbol's statement; `laws` says that a breakpoint on that line is hit at the symbol's value.
+// symbol's statement; `laws` says that a breakpoint on that line is hit at the symbol's value. `told_at`
+// returns the word at a fault in a program's text.
 #![tactic(auto)]
 
 pub mod before;
@@ -13,3 +14,4 @@ pub mod laws;
 pub mod listing;
 pub mod memory;
 mod register;
+pub mod words;

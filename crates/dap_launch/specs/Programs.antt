@@ -13,6 +13,7 @@ use Rattle.dap_editor.specs.declared.request.Launch.{Launch as LaunchOf}
 use Rattle.dap_editor.specs.declared.request.LineBreakpoint.{LineBreakpoint}
 use Rattle.dap_editor.specs.declared.request.FunctionBreakpoint.{FunctionBreakpoint}
 use Rattle.dap_editor.specs.declared.request.DataBreakpoint.{DataBreakpoint}
+use Rattle.dap_editor.specs.declared.request.InstructionBreakpoint.{InstructionBreakpoint}
 use Rattle.dap_points.specs.Points.{WantedBreakpointsState, number_of, lines_at}
 use Rattle.dap_program.specs.declared.messages.FollowUp.{FollowUp}
 use Rattle.dap_program.specs.declared.messages.FollowUp.TheVariants.{Nothing, Continued, Stopped}
@@ -22,6 +23,7 @@ use Rattle.dap_program.specs.Boards.{after, begin_run}
 use Rattle.dap_slice.specs.declared.conditions.ConditionalBreakpoint.{ConditionalBreakpoint}
 use Rattle.dap_program.specs.Breakpoints.{lines_on, board_armed_at, labels_behind}
 use Rattle.dap_data.specs.Points.{watches_on}
+use Rattle.dap_data.specs.Instructions.{breaks_on}
 use Rattle.dap_lines.specs.Conditions.{conditional_points}
 use Rattle.dap_launch.specs.declared.program.Phase.TheVariants as phase
 use Rattle.dap_launch.specs.declared.program.Program.{Program}
@@ -67,7 +69,7 @@ begun_follow cause l = if pauses l then Stopped Entry else going_follow cause
 
 abbrev pub program_lines : Program → WantedBreakpointsState → Board → List PlacedBreakpoint
 program_lines p kept b =
-    let path = p.launch.program in lines_on b (number_of path kept.lists) (lines_at path kept.lists)
+    let path = p.launch.canonical in lines_on b (number_of path kept.lists) (lines_at path kept.lists)
 
 -- at these labels
 abbrev pub labels_for : Program → WantedBreakpointsState → List FunctionBreakpoint → Board
@@ -83,25 +85,57 @@ armed_with p number lines functions b =
     let on_lines = lines_on b number lines in
     board_armed_at p.launch.program on_lines (labels_behind b on_lines functions) b
 
-abbrev pub program_board : Program → WantedBreakpointsState → Board → Board
-program_board p kept b =
-    let path = p.launch.program in
-    armed_with p (number_of path kept.lists) (lines_at path kept.lists) (take 256 kept.functions) b
+-- ---- what is wanted of it
+
+-- The breakpoints on a program's lines, which are those of the source with this number, at labels, on data,
+-- and at instructions.
+pub record ProgramLists : Type 0 where
+  pub number : ℕ
+  pub lines : List LineBreakpoint
+  pub functions : List FunctionBreakpoint
+  pub on_data : List DataBreakpoint
+  pub instructions : List InstructionBreakpoint
+
+abbrev pub lists_in : ProgramBreakpoints → ProgramLists
+lists_in w = record {
+  number = w.number;
+  lines = w.lines.now;
+  functions = w.functions.now;
+  on_data = w.on_data.now;
+  instructions = w.instructions.now;
+}
+
+-- those that are kept for the program
+abbrev pub program_lists : Program → WantedBreakpointsState → ProgramLists
+program_lists p kept = record {
+  number = number_of p.launch.canonical kept.lists;
+  lines = lines_at p.launch.canonical kept.lists;
+  functions = take 256 kept.functions;
+  on_data = take 256 kept.on_data;
+  instructions = take 256 kept.instructions;
+}
 
 -- they have the number of a source, and are as few as a request may have
-abbrev pub AreFew : ProgramBreakpoints → Type 0
-AreFew points =
-    (points.number ≤ 1025) × (length points.lines.now ≤ 256) × (length points.functions.now ≤ 256)
+abbrev pub AreFew : ProgramLists → Type 0
+AreFew w = (w.number ≤ 1025) × (length w.lines ≤ 256) × (length w.functions ≤ 256)
+
+-- the program's board, which stops on these lines and at these labels
+abbrev pub armed_for : Program → ProgramLists → Board → Board
+armed_for p w b = armed_with p w.number w.lines w.functions b
+
+abbrev pub program_board : Program → WantedBreakpointsState → Board → Board
+program_board p kept b = armed_for p (program_lists p kept) b
 
 -- where they are on the board
-abbrev pub placed_on : Board → ProgramBreakpoints → PlacedLists
-placed_on b points =
-    let on_lines = lines_on b points.number points.lines.now in
-    record { lines = on_lines; labels = labels_behind b on_lines points.functions.now }
+abbrev pub placed_on : Board → ProgramLists → PlacedLists
+placed_on b w =
+    let on_lines = lines_on b w.number w.lines in
+    record { lines = on_lines; labels = labels_behind b on_lines w.functions }
 
--- what is watched; a run without a debugger watches nothing
-abbrev pub watches_in : Program → List DataBreakpoint → Board → List ConditionalBreakpoint
-watches_in p on_data b = if p.launch.is_debugged then watches_on b on_data else []
+-- those on data and at instructions; a run without a debugger has none
+abbrev pub off_lines : Program → ProgramLists → Board → List ConditionalBreakpoint
+off_lines p w b =
+    if p.launch.is_debugged then watches_on b w.on_data ++ breaks_on b w.instructions else []
 
 -- those that have options; a run without a debugger has none
 abbrev pub conditional_in : Program → Board → List PlacedBreakpoint → List PlacedBreakpoint
@@ -116,17 +150,12 @@ abbrev pub conditional_with : Program → ℕ → List LineBreakpoint → List F
 conditional_with p number lines functions b =
     let on_lines = lines_on b number lines in conditional_in p b on_lines (labels_behind b on_lines functions)
 
--- the same, and what is watched
-abbrev pub conditional_of : Program → ProgramBreakpoints → Board → List ConditionalBreakpoint
-conditional_of p points b =
-    conditional_with p points.number points.lines.now points.functions.now b
-    ++ watches_in p points.on_data.now b
+-- the same, and those that aren't on lines
+abbrev pub conditional_for : Program → ProgramLists → Board → List ConditionalBreakpoint
+conditional_for p w b = conditional_with p w.number w.lines w.functions b ++ off_lines p w b
 
 abbrev pub program_conditions : Program → WantedBreakpointsState → Board → List ConditionalBreakpoint
-program_conditions p kept b =
-    let path = p.launch.program in
-    conditional_with p (number_of path kept.lists) (lines_at path kept.lists) (take 256 kept.functions) b
-    ++ watches_in p (take 256 kept.on_data) b
+program_conditions p kept b = conditional_for p (program_lists p kept) b
 
 -- For each board that the lab represents: it was armed so, and these are its breakpoints with options.
 abbrev pub ArmsAs : (Board → Board) → (Board → List ConditionalBreakpoint) → LabState

@@ -3,18 +3,24 @@ ghost use Rattle.std.specs.Prelude.{◌≡◌, ◌≤◌, ◌+◌, ◌++◌, len
 ghost use Rattle.lab_core.specs.Board.{Board};
 ghost use Rattle.lab_core.specs.Labs.{RepresentsBoard};
 ghost use Rattle.dap_launch.specs.Points.{points_for, points_where, labels_where, changed_from};
-ghost use Rattle.dap_launch.specs.Points.{data_where, all_changed};
+ghost use Rattle.dap_launch.specs.Points.{data_where, instructions_where, changed_off_lines, all_changed};
 ghost use Rattle.dap_data.specs.Points.{points_on};
+ghost use Rattle.dap_data.specs.Instructions.{instructions_on};
 ghost use Rattle.dap_points.specs.Changes.{changed_points};
 ghost use Rattle.dap_launch.specs.Programs.{program_labels};
 
 use crate::program::{LoadedProgram, Program, labels_for};
 use base_text::sequence::Sequence;
+use dap_data::instructions::instruction_points;
 use dap_data::points::data_points;
-use dap_editor::request::{DataBreakpoint, FunctionBreakpoint, LineBreakpoint};
+use dap_editor::request::{
+    DataBreakpoint, FunctionBreakpoint, InstructionBreakpoint, LineBreakpoint,
+};
 use dap_messages::message::{BreakpointNote, PlacedBreakpoint};
 use dap_points::changes::changed_points;
-use dap_points::placed::{other_points, unlaunched_data, unlaunched_labels};
+use dap_points::placed::{
+    other_points, unlaunched_data, unlaunched_instructions, unlaunched_labels,
+};
 use dap_points::points::{SourceLines, WantedBreakpoints};
 use dap_program::breakpoints::lines_on;
 use lab_core::lab::Lab;
@@ -32,11 +38,10 @@ fn points_for(
     ensures { (b : Board) → RepresentsBoard lab.now b
         → IfOk result (λ points. points ≡ points_for program.now b number source.now) }
 {
-    let path = &program.launch.program;
-    if path.as_str() == source.path.as_str() {
+    if program.launch.canonical.as_str() == source.path.as_str() {
         return lines_on(alloc, lab, number, source.used());
     }
-    let why = BreakpointNote::OtherProgram(path.clone()?);
+    let why = BreakpointNote::OtherProgram(program.launch.program.clone()?);
     other_points(alloc, &why, number, source.used())
 }
 
@@ -90,6 +95,23 @@ pub fn data_where(
     match program {
         None => unlaunched_data(alloc, on_data),
         Some(_) => data_points(alloc, lab, on_data),
+    }
+}
+
+/// The breakpoints at instructions of the program, if one is launched.
+pub fn instructions_where(
+    alloc: Global,
+    program: &Option<Program>,
+    instructions: &[InstructionBreakpoint],
+    lab: &Lab,
+) -> Result<Sequence<PlacedBreakpoint>, AllocError>
+    requires { length instructions.now ≤ 256 }
+    ensures { (b : Board) → RepresentsBoard lab.now b
+        → IfOk result (λ points. points ≡ instructions_where program.now instructions.now b) }
+{
+    match program {
+        None => unlaunched_instructions(alloc, instructions),
+        Some(_) => instruction_points(alloc, lab, instructions),
     }
 }
 
@@ -224,17 +246,52 @@ fn changed_data(
     alloc: Global,
     before: &Option<Program>,
     old: &Lab,
-    loaded: &LoadedProgram,
+    lab: &Lab,
     on_data: &[DataBreakpoint],
 ) -> Result<Sequence<PlacedBreakpoint>, AllocError>
     requires { length on_data.now ≤ 256 }
-    ensures { (o b : Board) → RepresentsBoard old.now o → RepresentsBoard loaded.now.lab b
+    ensures { (o b : Board) → RepresentsBoard old.now o → RepresentsBoard lab.now b
         → IfOk result (λ points. points
         ≡ changed_points (data_where before.now on_data.now o) (points_on b on_data.now)) }
 {
     let told = data_where(alloc, before, on_data, old)?;
-    let points = data_points(alloc, &loaded.lab, on_data)?;
+    let points = data_points(alloc, lab, on_data)?;
     changed_points(alloc, told.as_slice(), points.as_slice())
+}
+
+// The breakpoints at instructions that aren't what they were.
+fn changed_instructions(
+    alloc: Global,
+    before: &Option<Program>,
+    old: &Lab,
+    lab: &Lab,
+    instructions: &[InstructionBreakpoint],
+) -> Result<Sequence<PlacedBreakpoint>, AllocError>
+    requires { length instructions.now ≤ 256 }
+    ensures { (o b : Board) → RepresentsBoard old.now o → RepresentsBoard lab.now b
+        → IfOk result (λ points. points ≡ changed_points (instructions_where before.now instructions.now o)
+        (instructions_on b instructions.now)) }
+{
+    let told = instructions_where(alloc, before, instructions, old)?;
+    let points = instruction_points(alloc, lab, instructions)?;
+    changed_points(alloc, told.as_slice(), points.as_slice())
+}
+
+// The breakpoints on data and at instructions that aren't what they were.
+fn changed_off_lines(
+    alloc: Global,
+    before: &Option<Program>,
+    old: &Lab,
+    lab: &Lab,
+    points: &WantedBreakpoints,
+) -> Result<Sequence<PlacedBreakpoint>, AllocError>
+    ensures { (o b : Board) → RepresentsBoard old.now o → RepresentsBoard lab.now b
+        → IfOk result (λ changed. changed ≡ changed_off_lines before.now o b points.now) }
+{
+    let mut changed = changed_data(alloc, before, old, lab, points.on_data())?;
+    let instructions = changed_instructions(alloc, before, old, lab, points.instructions())?;
+    push_points(&mut changed, instructions)?;
+    Ok(changed)
 }
 
 /// The breakpoints that aren't what they were, when a program takes the place of the one before, if there
@@ -252,7 +309,7 @@ pub fn all_changed(
     let mut all = changed_from(alloc, before, old, loaded, points.sources())?;
     let labels = changed_labels(alloc, before, old, loaded, points)?;
     push_points(&mut all, labels)?;
-    let on_data = changed_data(alloc, before, old, loaded, points.on_data())?;
-    push_points(&mut all, on_data)?;
+    let off_lines = changed_off_lines(alloc, before, old, &loaded.lab, points)?;
+    push_points(&mut all, off_lines)?;
     Ok(all)
 }

@@ -4,15 +4,17 @@ ghost use Rattle.lab_core.specs.Board.{Board};
 ghost use Rattle.lab_core.specs.Labs.{RepresentsBoard};
 ghost use Rattle.dap_program.specs.Boards.{begin_run};
 ghost use Rattle.dap_launch.specs.Programs.{pauses, with_input, begun_board, begun_if, board_if};
-ghost use Rattle.dap_launch.specs.Programs.{program_lines, labels_for, conditional_in, conditional_of};
-ghost use Rattle.dap_launch.specs.Programs.{watches_in, AreFew, placed_on};
-ghost use Rattle.dap_launch.specs.Programs.{armed_with, ArmsAs};
-ghost use Rattle.dap_launch.specs.Programs.{program_conditions, program_board};
+ghost use Rattle.dap_launch.specs.Programs.{program_lines, labels_for, conditional_in, lists_in};
+ghost use Rattle.dap_launch.specs.Programs.{program_lists, AreFew, armed_for, program_board, placed_on};
+ghost use Rattle.dap_launch.specs.Programs.{off_lines, conditional_for, program_conditions, ArmsAs};
 
 use base_text::latin::to_bytes;
 use base_text::sequence::Sequence;
+use dap_data::instructions::push_breaks;
 use dap_data::points::push_watches;
-use dap_editor::request::{DataBreakpoint, FunctionBreakpoint, Launch, LineBreakpoint};
+use dap_editor::request::{
+    DataBreakpoint, FunctionBreakpoint, InstructionBreakpoint, Launch, LineBreakpoint,
+};
 use dap_lines::conditions::conditional_points;
 use dap_messages::message::PlacedBreakpoint;
 use dap_points::points::WantedBreakpoints;
@@ -46,13 +48,14 @@ pub struct Program {
 }
 
 /// The breakpoints that are wanted of a program: on its lines, which are those of the source with this
-/// number, at labels, and on data.
+/// number, at labels, on data, and at instructions.
 #[derive(Clone, Copy)]
 pub struct ProgramBreakpoints<'a> {
     pub number: u32,
     pub lines: &'a [LineBreakpoint],
     pub functions: &'a [FunctionBreakpoint],
     pub on_data: &'a [DataBreakpoint],
+    pub instructions: &'a [InstructionBreakpoint],
 }
 
 /// Those on lines, and those at labels, on its board.
@@ -130,9 +133,11 @@ pub fn copy_launch(launch: &Launch) -> Result<Launch, AllocError>
     ensures { IfOk result (λ copy. copy ≡ launch.now) }
 {
     let program = launch.program.clone()?;
+    let canonical = launch.canonical.clone()?;
     let input = launch.input.clone()?;
     Ok(Launch {
         program,
+        canonical,
         stops_on_entry: launch.stops_on_entry,
         stops_at_end: launch.stops_at_end,
         is_debugged: launch.is_debugged,
@@ -153,7 +158,7 @@ pub fn program_lines(
     ensures { (b : Board) → RepresentsBoard lab.now b
         → IfOk result (λ lines. lines ≡ program_lines program.now points.now b) }
 {
-    let path = program.launch.program.as_str();
+    let path = program.launch.canonical.as_str();
     lines_on(alloc, lab, points.number_of(path), points.lines_at(path))
 }
 
@@ -194,67 +199,83 @@ fn conditional_in(
 fn placed(
     alloc: Global,
     lab: &Lab,
-    points: &ProgramBreakpoints<'_>,
+    wanted: &ProgramBreakpoints<'_>,
 ) -> Result<PlacedLists, AllocError>
-    requires { AreFew points.now }
+    requires { AreFew (lists_in wanted.now) }
     ensures { (b : Board) → RepresentsBoard lab.now b
-        → IfOk result (λ lists. lists ≡ placed_on b points.now) }
+        → IfOk result (λ lists. lists ≡ placed_on b (lists_in wanted.now)) }
 {
-    let lines = lines_on(alloc, lab, points.number, points.lines)?;
-    let labels = labels_behind(alloc, lab, lines.as_slice(), points.functions)?;
+    let lines = lines_on(alloc, lab, wanted.number, wanted.lines)?;
+    let labels = labels_behind(alloc, lab, lines.as_slice(), wanted.functions)?;
     Ok(PlacedLists { lines, labels })
 }
 
-// Those that have options, and what is watched.
-fn with_watches(
+// Adds those on data and at instructions.
+fn push_off_lines(
     alloc: Global,
     lab: &Lab,
     program: &Program,
-    on_data: &[DataBreakpoint],
+    wanted: &ProgramBreakpoints<'_>,
+    points: &mut ConditionalBreakpoints,
+) -> Result<(), AllocError>
+    ensures { (b : Board) → RepresentsBoard lab.now b
+        → OnOk result (points.new ≡ points.old ++ off_lines program.now (lists_in wanted.now) b) }
+{
+    if program.launch.is_debugged {
+        push_watches(alloc, lab, points, wanted.on_data)?;
+        push_breaks(alloc, lab, points, wanted.instructions)?;
+    }
+    Ok(())
+}
+
+// Those that have options, and those that aren't on lines.
+fn conditional_with(
+    alloc: Global,
+    lab: &Lab,
+    program: &Program,
+    wanted: &ProgramBreakpoints<'_>,
     lists: &PlacedLists,
 ) -> Result<ConditionalBreakpoints, AllocError>
     ensures { (b : Board) → RepresentsBoard lab.now b → IfOk result (λ points. points
         ≡ conditional_in program.now b lists.now.lines lists.now.labels
-        ++ watches_in program.now on_data.now b) }
+        ++ off_lines program.now (lists_in wanted.now) b) }
 {
     let lines = lists.lines.as_slice();
     let mut points = conditional_in(alloc, lab, program, lines, lists.labels.as_slice())?;
-    if program.launch.is_debugged {
-        push_watches(alloc, lab, &mut points, on_data)?;
-    }
+    push_off_lines(alloc, lab, program, wanted, &mut points)?;
     Ok(points)
 }
 
-/// Those of a program's breakpoints that have options, and what is watched.
-pub fn conditional_of(
+/// Those of a program's breakpoints that have options, and those that aren't on lines.
+pub fn conditional_for(
     alloc: Global,
     lab: &Lab,
     program: &Program,
-    points: &ProgramBreakpoints<'_>,
+    wanted: &ProgramBreakpoints<'_>,
 ) -> Result<ConditionalBreakpoints, AllocError>
-    requires { AreFew points.now }
+    requires { AreFew (lists_in wanted.now) }
     ensures { (b : Board) → RepresentsBoard lab.now b
-        → IfOk result (λ found. found ≡ conditional_of program.now points.now b) }
+        → IfOk result (λ points. points ≡ conditional_for program.now (lists_in wanted.now) b) }
 {
-    let lists = placed(alloc, lab, points)?;
-    with_watches(alloc, lab, program, points.on_data, &lists)
+    let lists = placed(alloc, lab, wanted)?;
+    conditional_with(alloc, lab, program, wanted, &lists)
 }
 
-/// Makes a program's board stop at these breakpoints, and returns those that have options, and what is
-/// watched. If memory runs out the board stays as it was.
+/// Makes a program's board stop at these breakpoints, and returns those that have options, and those that
+/// aren't on lines. If memory runs out the board stays as it was.
 pub fn arm_with(
     alloc: Global,
     lab: &mut Lab,
     program: &Program,
-    points: &ProgramBreakpoints<'_>,
+    wanted: &ProgramBreakpoints<'_>,
 ) -> Result<ConditionalBreakpoints, AllocError>
-    requires { AreFew points.now }
-    ensures ok { ArmsAs (armed_with program.now points.now.number points.now.lines.now points.now.functions.now)
-        (conditional_of program.now points.now) lab.old result lab.new }
+    requires { AreFew (lists_in wanted.now) }
+    ensures ok { ArmsAs (armed_for program.now (lists_in wanted.now))
+        (conditional_for program.now (lists_in wanted.now)) lab.old result lab.new }
     ensures err { OnErr result (lab.new ≡ lab.old) }
 {
-    let lists = placed(alloc, lab, points)?;
-    let found = with_watches(alloc, lab, program, points.on_data, &lists)?;
+    let lists = placed(alloc, lab, wanted)?;
+    let points = conditional_with(alloc, lab, program, wanted, &lists)?;
     let path = &program.launch.program;
     arm(
         alloc,
@@ -263,11 +284,26 @@ pub fn arm_with(
         lists.lines.as_slice(),
         lists.labels.as_slice(),
     )?;
-    Ok(found)
+    Ok(points)
+}
+
+/// The breakpoints that are kept for a program.
+pub fn wanted_of<'a>(points: &'a WantedBreakpoints, program: &Program) -> ProgramBreakpoints<'a>
+    ensures lists { lists_in result ≡ program_lists program.now points.now }
+    ensures few { AreFew (lists_in result) }
+{
+    let path = program.launch.canonical.as_str();
+    ProgramBreakpoints {
+        number: points.number_of(path),
+        lines: points.lines_at(path),
+        functions: points.functions(),
+        on_data: points.on_data(),
+        instructions: points.instructions(),
+    }
 }
 
 /// Makes a program's board stop at the breakpoints that are kept for the program, and returns those that have
-/// options, and what is watched. If memory runs out the board stays as it was.
+/// options, and those that aren't on lines. If memory runs out the board stays as it was.
 pub fn arm_program(
     alloc: Global,
     lab: &mut Lab,
@@ -278,12 +314,5 @@ pub fn arm_program(
         (program_conditions program.now points.now) lab.old result lab.new }
     ensures err { OnErr result (lab.new ≡ lab.old) }
 {
-    let path = program.launch.program.as_str();
-    let points = ProgramBreakpoints {
-        number: points.number_of(path),
-        lines: points.lines_at(path),
-        functions: points.functions(),
-        on_data: points.on_data(),
-    };
-    arm_with(alloc, lab, program, &points)
+    arm_with(alloc, lab, program, &wanted_of(points, program))
 }

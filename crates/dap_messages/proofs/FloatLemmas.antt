@@ -20,20 +20,25 @@ use Rattle.dap_messages.specs.declared.message.EditorEvent.{EditorEvent}
 use Rattle.dap_messages.specs.declared.message.EditorEvent.TheVariants as event
 use Rattle.dap_messages.specs.declared.message.Message.{Message}
 use Rattle.dap_messages.specs.declared.message.Message.TheVariants.{Response, Event}
-use Rattle.dap_messages.specs.Json.{line_members, note_members, placed_json, source_json, data_members}
-use Rattle.dap_messages.specs.Json.{data_json, editor_body_json, outcome_json, stopped_json, output_json}
+use Rattle.dap_messages.specs.Json.{address_members, line_members, note_members, placed_json, source_json}
+use Rattle.dap_messages.specs.Json.{data_members, data_json, editor_body_json, outcome_json, stopped_json}
+use Rattle.dap_messages.specs.Json.{output_json}
 use Rattle.dap_messages.specs.Json.{editor_event_json, message_json}
 
-placed_by : (id : ℕ) (line : Option ℕ) (note : Option BreakpointNote) (is_verified : Bool)
-    → has_float (object_of ((codes "id", whole_number id) ∷ line_members line ++ (note_members note ++
-    (codes "verified", boolean is_verified) ∷ []))) ≡ false
-placed_by id None None is_verified = refl
-placed_by id None (Some note) is_verified = refl
-placed_by id (Some line) None is_verified = refl
-placed_by id (Some line) (Some note) is_verified = refl
+placed_by : (id : ℕ) (address line : Option ℕ) (note : Option BreakpointNote) (is_verified : Bool)
+    → has_float (object_of ((codes "id", whole_number id) ∷ address_members address ++ (line_members line ++
+    (note_members note ++ (codes "verified", boolean is_verified) ∷ [])))) ≡ false
+placed_by id None None None is_verified = refl
+placed_by id None None (Some note) is_verified = refl
+placed_by id None (Some line) None is_verified = refl
+placed_by id None (Some line) (Some note) is_verified = refl
+placed_by id (Some address) None None is_verified = refl
+placed_by id (Some address) None (Some note) is_verified = refl
+placed_by id (Some address) (Some line) None is_verified = refl
+placed_by id (Some address) (Some line) (Some note) is_verified = refl
 
 placed : (b : PlacedBreakpoint) → has_float (placed_json b) ≡ false
-placed b = placed_by b.id b.line b.note b.is_verified
+placed b = placed_by b.id b.address b.line b.note b.is_verified
 
 counted : (a : Data) (bytes : List ℕ) (none : Bool) (count : ℕ) → has_float a ≡ false
     → has_float (object_of ((codes "address", a) ∷ data_members bytes ++

@@ -64,6 +64,11 @@ abbrev pub line_members : Option ℕ → List (Text × Data)
 line_members None = []
 line_members (Some line) = (codes "line", whole_number line) ∷ []
 
+-- so is its address
+abbrev pub address_members : Option ℕ → List (Text × Data)
+address_members None = []
+address_members (Some address) = (codes "instructionReference", string (reference address)) ∷ []
+
 abbrev pub note_text : BreakpointNote → Text
 note_text (note.Moved from) = codes "moved from line " ++ decimal from
 note_text (note.NoCode line) = codes "no code at or below line " ++ decimal line
@@ -72,6 +77,7 @@ note_text (note.OtherProgram path) = codes "the program is " ++ path
 note_text (note.Wrong why) = why
 note_text note.NotSupported = codes "hit counts are not supported"
 note_text note.NoLabel = codes "the program has no such label"
+note_text note.NoAddress = codes "there is no such address"
 note_text note.TooMany = codes "more than 256 breakpoints"
 note_text note.TooManyData = codes "more than 16 data breakpoints"
 
@@ -81,8 +87,8 @@ note_members (Some n) = (codes "message", string (note_text n)) ∷ []
 
 abbrev pub placed_json : PlacedBreakpoint → Data
 placed_json b = object_of (
-    (codes "id", whole_number b.id) ∷ line_members b.line ++ (note_members b.note ++
-    (codes "verified", boolean b.is_verified) ∷ []))
+    (codes "id", whole_number b.id) ∷ address_members b.address ++ (line_members b.line ++
+    (note_members b.note ++ (codes "verified", boolean b.is_verified) ∷ [])))
 
 -- the part of a path after its last `/`, or all of it
 abbrev pub last_part : Text → Text
@@ -148,6 +154,7 @@ capabilities_json = object_of (
     can (codes "supportsExceptionInfoRequest") ∷
     can (codes "supportsFunctionBreakpoints") ∷
     can (codes "supportsGotoTargetsRequest") ∷
+    can (codes "supportsInstructionBreakpoints") ∷
     can (codes "supportsLoadedSourcesRequest") ∷
     can (codes "supportsLogPoints") ∷
     can (codes "supportsReadMemoryRequest") ∷

@@ -5,8 +5,8 @@ ghost use Rattle.serde_json.specs.View.{view};
 ghost use Rattle.dap_answers.specs.Object.{HasMembers};
 ghost use Rattle.dap_answers.specs.Json.{members_from, list_of, one_list, reference, line_json};
 ghost use Rattle.dap_answers.specs.Json.{whole_number};
-ghost use Rattle.dap_messages.specs.Json.{note_text, line_members, placed_json, last_part, source_json};
-ghost use Rattle.dap_messages.specs.Json.{base64_text};
+ghost use Rattle.dap_messages.specs.Json.{note_text, line_members, address_members, placed_json};
+ghost use Rattle.dap_messages.specs.Json.{last_part, source_json, base64_text};
 ghost use Rattle.dap_messages.specs.Json.{data_members, filter_json, filters_json};
 ghost use Rattle.dap_messages.specs.Json.{can, capabilities_json};
 ghost use Rattle.dap_messages.specs.Json.{target_json, evaluation_json, watchable_json, data_info_json};
@@ -84,6 +84,7 @@ fn capabilities(alloc: Global) -> Result<Value, AllocError>
         .flag("supportsDataBreakpoints", true)
         .flag("supportsEvaluateForHovers", true)
         .flag("supportsFunctionBreakpoints", true)
+        .flag("supportsInstructionBreakpoints", true)
         .flag("supportsLogPoints", true)
         .flag("supportsSetVariable", true)
         .flag("supportsStepBack", true)
@@ -108,13 +109,14 @@ fn note_text(alloc: Global, note: &BreakpointNote) -> Result<Text, AllocError>
             text.push_str("hit counts are not supported")?;
         }
         BreakpointNote::NoLabel => text.push_str("the program has no such label")?,
+        BreakpointNote::NoAddress => text.push_str("there is no such address")?,
         BreakpointNote::TooMany => text.push_str("more than 256 breakpoints")?,
         BreakpointNote::TooManyData => text.push_str("more than 16 data breakpoints")?,
     }
     Ok(Text::from(text))
 }
 
-// The members of a breakpoint, without its note.
+// The members of a breakpoint, without its address and its note.
 fn bare_breakpoint(alloc: Global, breakpoint: &PlacedBreakpoint) -> Object
     ensures { HasMembers result (members_from ((codes "id", whole_number breakpoint.now.id) ∷
         line_members breakpoint.now.line ++ (codes "verified", boolean breakpoint.now.is_verified) ∷ [])) }
@@ -128,16 +130,32 @@ fn bare_breakpoint(alloc: Global, breakpoint: &PlacedBreakpoint) -> Object
     }
 }
 
+// The members of a breakpoint, without its note.
+fn placed_breakpoint(alloc: Global, breakpoint: &PlacedBreakpoint) -> Result<Object, AllocError>
+    ensures { IfOk result (λ o. HasMembers o (members_from ((codes "id", whole_number breakpoint.now.id) ∷
+        address_members breakpoint.now.address ++ (line_members breakpoint.now.line
+        ++ (codes "verified", boolean breakpoint.now.is_verified) ∷ [])))) }
+{
+    let bare = bare_breakpoint(alloc, breakpoint);
+    match breakpoint.address {
+        None => Ok(bare),
+        Some(address) => {
+            let reference = reference(alloc, address)?;
+            Ok(bare.value("instructionReference", reference))
+        }
+    }
+}
+
 impl ToJson for PlacedBreakpoint {
     ghost json = { placed_json };
 
     fn to_json(&self, alloc: Global) -> Result<Value, AllocError> {
-        let bare = bare_breakpoint(alloc, self);
+        let placed = placed_breakpoint(alloc, self)?;
         match &self.note {
-            None => bare.finish(),
+            None => placed.finish(),
             Some(note) => {
                 let text = note_text(alloc, note)?;
-                bare.text("message", text.as_str()).finish()
+                placed.text("message", text.as_str()).finish()
             }
         }
     }

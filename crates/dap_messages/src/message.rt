@@ -19,6 +19,7 @@ pub enum BreakpointNote {
     /// It has a hit count.
     NotSupported,
     NoLabel,
+    NoAddress,
     TooMany,
     TooManyData,
 }
@@ -36,8 +37,10 @@ pub struct BreakpointOptions {
 #[derive(Drop)]
 pub struct PlacedBreakpoint {
     pub id: u32,
-    /// `None` for a label that doesn't exist.
+    /// `None` for a label that doesn't exist, and for one that isn't on a line.
     pub line: Option<u32>,
+    /// Of a breakpoint at an instruction: where PC meets it.
+    pub address: Option<u16>,
     /// Its options, which the response doesn't repeat.
     pub options: BreakpointOptions,
     pub is_verified: bool,
@@ -76,7 +79,7 @@ pub enum EditorBody {
     Board(Body),
     /// Of `initialize`: what this debugger supports.
     Capabilities,
-    /// Of `setBreakpoints`, `setFunctionBreakpoints` and `setDataBreakpoints`.
+    /// Of `setBreakpoints` and the other requests that set breakpoints.
     Breakpoints(Sequence<PlacedBreakpoint>),
     /// Of `dataBreakpointInfo`.
     DataInfo(DataInfo),

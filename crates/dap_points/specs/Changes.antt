@@ -14,6 +14,7 @@ is_same_note (note.OtherProgram path) (note.OtherProgram path') = bytes_eq path 
 is_same_note (note.Wrong why) (note.Wrong why') = bytes_eq why why'
 is_same_note note.NotSupported note.NotSupported = true
 is_same_note note.NoLabel note.NoLabel = true
+is_same_note note.NoAddress note.NoAddress = true
 is_same_note note.TooMany note.TooMany = true
 is_same_note note.TooManyData note.TooManyData = true
 is_same_note n n' = false
@@ -23,7 +24,7 @@ is_same_option is_same None None = true
 is_same_option is_same (Some x) (Some y) = is_same x y
 is_same_option is_same x y = false
 
--- two tellings of a breakpoint with one number
+-- two tellings of a breakpoint with one number, and so with one address, if both have one
 abbrev pub is_same_point : PlacedBreakpoint → PlacedBreakpoint → Bool
 is_same_point p q =
     (if p.is_verified then q.is_verified else not q.is_verified)

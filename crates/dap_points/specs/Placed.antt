@@ -6,30 +6,61 @@ use Rattle.base_text.specs.Bytes.{Text}
 use Rattle.dap_editor.specs.declared.request.DataBreakpoint.{DataBreakpoint}
 use Rattle.dap_editor.specs.declared.request.LineBreakpoint.{LineBreakpoint}
 use Rattle.dap_editor.specs.declared.request.FunctionBreakpoint.{FunctionBreakpoint}
+use Rattle.dap_editor.specs.declared.request.InstructionBreakpoint.{InstructionBreakpoint}
 use Rattle.dap_messages.specs.declared.message.BreakpointNote.{BreakpointNote}
 use Rattle.dap_messages.specs.declared.message.BreakpointNote.TheVariants as note
 use Rattle.dap_messages.specs.declared.message.BreakpointOptions.{BreakpointOptions}
 use Rattle.dap_messages.specs.declared.message.PlacedBreakpoint.{PlacedBreakpoint}
 use Rattle.dap_points.specs.declared.placed.CheckedData.{CheckedData}
+use Rattle.dap_points.specs.declared.placed.CheckedInstruction.{CheckedInstruction}
 use Rattle.dap_points.specs.declared.placed.LandedLine.{LandedLine}
 use Rattle.dap_points.specs.declared.placed.FoundLabel.{FoundLabel}
 
--- The breakpoint at a place of a source's list. Labels have the number 0, data 1,025, which no source has.
+-- The breakpoint at a place of a source's list. Labels have the number 0, data 1,025 and instructions 1,026,
+-- which no source has.
 abbrev pub id_at : ℕ → ℕ → ℕ
 id_at number index = 256 * number + (index + 1)
 
 -- it is met on this line
 abbrev pub met_at : ℕ → ℕ → BreakpointOptions → Option BreakpointNote → PlacedBreakpoint
-met_at id line options n =
-    record { id = id; line = Some line; options = options; is_verified = true; note = n }
+met_at id line options n = record {
+  id = id;
+  line = Some line;
+  address = None;
+  options = options;
+  is_verified = true;
+  note = n;
+}
 
 abbrev pub no_options : BreakpointOptions
 no_options = record { condition = None; log_message = None }
 
 -- it is never met
 abbrev pub unmet_at : ℕ → Option ℕ → BreakpointNote → PlacedBreakpoint
-unmet_at id line why =
-    record { id = id; line = line; options = no_options; is_verified = false; note = Some why }
+unmet_at id line why = record {
+  id = id;
+  line = line;
+  address = None;
+  options = no_options;
+  is_verified = false;
+  note = Some why;
+}
+
+-- it is met beside the lines, at this address or on data, where its condition is true
+abbrev pub met_where : ℕ → Option ℕ → Option Text → PlacedBreakpoint
+met_where id address condition = record {
+  id = id;
+  line = None;
+  address = address;
+  options = record { condition = condition; log_message = None };
+  is_verified = true;
+  note = None;
+}
+
+-- All of a list, of which the first has this place. How an editor is told of one depends on its place.
+abbrev pub points_by : {T : Type 0} → (ℕ → T → PlacedBreakpoint) → ℕ → List T → List PlacedBreakpoint
+points_by point index [] = []
+points_by point index (x ∷ xs) = point index x ∷ points_by point (index + 1) xs
 
 -- ---- on lines of the program
 
@@ -93,28 +124,12 @@ label_points room index (l ∷ ls) =
     label_point (id_at 0 index) room l
     ∷ label_points (room_after room (label_point (id_at 0 index) room l)) (index + 1) ls
 
--- as long as there is no program
-abbrev pub unlaunched_labels : ℕ → List FunctionBreakpoint → List PlacedBreakpoint
-unlaunched_labels index [] = []
-unlaunched_labels index (f ∷ fs) =
-    unmet_at (id_at 0 index) None (why_unmet note.NotLaunched f.is_plain) ∷ unlaunched_labels (index + 1) fs
-
 -- ---- on data
-
--- it is met where the data changes and its condition is true
-abbrev pub watched_at : ℕ → Option Text → PlacedBreakpoint
-watched_at id condition = record {
-  id = id;
-  line = None;
-  options = record { condition = condition; log_message = None };
-  is_verified = true;
-  note = None;
-}
 
 -- the first 16 are watched, unless there is something to object to one
 abbrev pub data_point_unless : Option BreakpointNote → ℕ → CheckedData → PlacedBreakpoint
 data_point_unless None index d =
-    if nat_lt index 16 then watched_at (id_at 1025 index) d.condition
+    if nat_lt index 16 then met_where (id_at 1025 index) None d.condition
     else unmet_at (id_at 1025 index) None note.TooManyData
 data_point_unless (Some why) index d = unmet_at (id_at 1025 index) None why
 
@@ -122,11 +137,45 @@ abbrev pub data_point : ℕ → CheckedData → PlacedBreakpoint
 data_point index d = data_point_unless d.objection index d
 
 abbrev pub data_points : ℕ → List CheckedData → List PlacedBreakpoint
-data_points index [] = []
-data_points index (d ∷ ds) = data_point index d ∷ data_points (index + 1) ds
+data_points index ds = points_by data_point index ds
 
--- as long as there is no program
+-- ---- at instructions
+
+-- where PC meets it, if there is such an address
+abbrev pub at_address : ℕ → Option ℕ → Option Text → PlacedBreakpoint
+at_address id None condition = unmet_at id None note.NoAddress
+at_address id (Some address) condition = met_where id (Some address) condition
+
+-- unless there is something to object to it
+abbrev pub instruction_point_unless : Option BreakpointNote → ℕ → CheckedInstruction → PlacedBreakpoint
+instruction_point_unless None id i = at_address id i.address i.condition
+instruction_point_unless (Some why) id i = unmet_at id None why
+
+abbrev pub instruction_point : ℕ → CheckedInstruction → PlacedBreakpoint
+instruction_point index i = instruction_point_unless i.objection (id_at 1026 index) i
+
+abbrev pub instruction_points : ℕ → List CheckedInstruction → List PlacedBreakpoint
+instruction_points index checked = points_by instruction_point index checked
+
+-- ---- as long as there is no program
+
+abbrev pub unlaunched_at : ℕ → Bool → PlacedBreakpoint
+unlaunched_at id is_plain = unmet_at id None (why_unmet note.NotLaunched is_plain)
+
+abbrev pub unlaunched_label : ℕ → FunctionBreakpoint → PlacedBreakpoint
+unlaunched_label index f = unlaunched_at (id_at 0 index) f.is_plain
+
+abbrev pub unlaunched_labels : ℕ → List FunctionBreakpoint → List PlacedBreakpoint
+unlaunched_labels index fs = points_by unlaunched_label index fs
+
+abbrev pub unlaunched_datum : ℕ → DataBreakpoint → PlacedBreakpoint
+unlaunched_datum index d = unlaunched_at (id_at 1025 index) d.is_plain
+
 abbrev pub unlaunched_data : ℕ → List DataBreakpoint → List PlacedBreakpoint
-unlaunched_data index [] = []
-unlaunched_data index (d ∷ ds) =
-    unmet_at (id_at 1025 index) None (why_unmet note.NotLaunched d.is_plain) ∷ unlaunched_data (index + 1) ds
+unlaunched_data index ds = points_by unlaunched_datum index ds
+
+abbrev pub unlaunched_instruction : ℕ → InstructionBreakpoint → PlacedBreakpoint
+unlaunched_instruction index i = unlaunched_at (id_at 1026 index) i.is_plain
+
+abbrev pub unlaunched_instructions : ℕ → List InstructionBreakpoint → List PlacedBreakpoint
+unlaunched_instructions index breakpoints = points_by unlaunched_instruction index breakpoints

@@ -1,4 +1,4 @@
--- The breakpoints that an editor has set: on the lines of each source, at labels, and on data.
+-- The breakpoints that an editor has set: on the lines of sources, at labels, on data, and at instructions.
 use Rattle.std.specs.Prelude.{ℕ, ◌+◌, List, [], ◌∷◌, ◌++◌, length, take, slice_get, slice_set, nat_lt, Bool}
 use Rattle.std.specs.Prelude.{true, Option, Some, None}
 use Rattle.std.specs.List.{position}
@@ -7,6 +7,7 @@ use Rattle.base_text.specs.Bytes.{Text}
 use Rattle.dap_editor.specs.declared.request.LineBreakpoint.{LineBreakpoint}
 use Rattle.dap_editor.specs.declared.request.FunctionBreakpoint.{FunctionBreakpoint}
 use Rattle.dap_editor.specs.declared.request.DataBreakpoint.{DataBreakpoint}
+use Rattle.dap_editor.specs.declared.request.InstructionBreakpoint.{InstructionBreakpoint}
 use Rattle.dap_points.specs.declared.points.SourceLines.{SourceLines}
 
 -- the view of a value of this type
@@ -15,9 +16,10 @@ pub record WantedBreakpointsState : Type 0 where
   pub lists : List SourceLines
   pub functions : List FunctionBreakpoint
   pub on_data : List DataBreakpoint
+  pub instructions : List InstructionBreakpoint
 
 abbrev pub no_points : WantedBreakpointsState
-no_points = record { lists = []; functions = []; on_data = [] }
+no_points = record { lists = []; functions = []; on_data = []; instructions = [] }
 
 -- the place of a source, if it has one
 abbrev pub place_of : Text → List SourceLines → Option ℕ

@@ -44,6 +44,7 @@ fn copy_point(point: &PlacedBreakpoint) -> Result<PlacedBreakpoint, AllocError>
     Ok(PlacedBreakpoint {
         id: point.id,
         line: point.line,
+        address: point.address,
         options,
         is_verified: point.is_verified,
         note,

@@ -1,8 +1,8 @@
-// The breakpoints that an editor has set: lines of sources, labels, and data (Debug Adapter Protocol,
-// `setBreakpoints`, `setFunctionBreakpoints` and `setDataBreakpoints`). `WantedBreakpoints` keeps them: each
-// source keeps its place, so that a breakpoint's number stays the same. `placed` numbers them and says where
-// each is met, or why it isn't; `board` lists the lines at which a board stops, at most 256; `changes` finds
-// the breakpoints that aren't what they were.
+// The breakpoints that an editor has set: on lines of sources, at labels, on data, and at instructions (Debug
+// Adapter Protocol, `setBreakpoints` and the like). `WantedBreakpoints` keeps them: each source keeps its
+// place, so that a breakpoint's number stays the same. `placed` numbers them and says where each is met, or
+// why it isn't; `board` lists the lines at which a board stops, at most 256; `changes` finds the breakpoints
+// that aren't what they were.
 #![tactic(auto)]
 
 pub mod board;

@@ -18,6 +18,7 @@ pub fn is_same_note(first: &BreakpointNote, second: &BreakpointNote) -> bool
         (BreakpointNote::NotLaunched, BreakpointNote::NotLaunched)
         | (BreakpointNote::NotSupported, BreakpointNote::NotSupported)
         | (BreakpointNote::NoLabel, BreakpointNote::NoLabel)
+        | (BreakpointNote::NoAddress, BreakpointNote::NoAddress)
         | (BreakpointNote::TooMany, BreakpointNote::TooMany)
         | (BreakpointNote::TooManyData, BreakpointNote::TooManyData) => true,
         _ => false,

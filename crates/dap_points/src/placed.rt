@@ -1,14 +1,20 @@
 //! Breakpoints as an editor is told of them.
-ghost use Rattle.std.specs.Prelude.{◌≡◌, ◌<◌, ◌≤◌, ◌+◌, length, IfOk};
+ghost use Rattle.std.specs.Prelude.{◌≡◌, ◌<◌, ◌≤◌, ◌+◌, ℕ, length, IfOk};
+ghost use Rattle.dap_messages.specs.declared.message.PlacedBreakpoint.{PlacedBreakpoint};
 ghost use Rattle.dap_points.specs.Placed.{id_at, met_at, unmet_at, moved_note, landed_point, line_point};
 ghost use Rattle.dap_points.specs.Placed.{line_points};
 ghost use Rattle.dap_points.specs.Placed.{why_unmet, other_points, at_label, label_point};
-ghost use Rattle.dap_points.specs.Placed.{room_after, label_points, unlaunched_labels};
-ghost use Rattle.dap_points.specs.Placed.{watched_at, data_point, data_points, unlaunched_data};
+ghost use Rattle.dap_points.specs.Placed.{room_after, label_points, met_where, points_by};
+ghost use Rattle.dap_points.specs.Placed.{data_point, data_points, instruction_point, instruction_points};
+ghost use Rattle.dap_points.specs.Placed.{unlaunched_at, unlaunched_label, unlaunched_labels};
+ghost use Rattle.dap_points.specs.Placed.{unlaunched_datum, unlaunched_data};
+ghost use Rattle.dap_points.specs.Placed.{unlaunched_instruction, unlaunched_instructions};
 
 use base_text::sequence::Sequence;
 use base_text::text::Text;
-use dap_editor::request::{DataBreakpoint, FunctionBreakpoint, LineBreakpoint};
+use dap_editor::request::{
+    DataBreakpoint, FunctionBreakpoint, InstructionBreakpoint, LineBreakpoint,
+};
 use dap_messages::message::{BreakpointNote, BreakpointOptions, PlacedBreakpoint};
 use std::alloc::{AllocError, Global};
 
@@ -39,8 +45,23 @@ pub struct CheckedData {
     pub objection: Option<BreakpointNote>,
 }
 
-/// The number of the list of breakpoints on data, where a source has its own.
+/// A breakpoint at an instruction.
+#[derive(Drop)]
+pub struct CheckedInstruction {
+    pub address: Option<u16>,
+    pub condition: Option<Text>,
+    /// What there is to object to it.
+    pub objection: Option<BreakpointNote>,
+}
+
+/// The number of the list of labels, where a source has its own.
+const LABEL_NUMBER: u32 = 0;
+
+/// The number of the list of breakpoints on data.
 const DATA_NUMBER: u32 = 1025;
+
+/// The number of the list of breakpoints at instructions.
+const INSTRUCTION_NUMBER: u32 = 1026;
 
 /// How many places at most are watched: the first ones of a request.
 pub const MOST_DATA: usize = 16;
@@ -52,7 +73,7 @@ const NO_OPTIONS: BreakpointOptions = BreakpointOptions {
 };
 
 fn id_at(number: u32, index: usize) -> u32
-    requires number { number ≤ 1025 }
+    requires number { number ≤ 1026 }
     requires index { index < 256 }
     ensures { result ≡ id_at number index }
 {
@@ -71,6 +92,7 @@ fn met_at(
     PlacedBreakpoint {
         id,
         line: Some(line),
+        address: None,
         options,
         is_verified: true,
         note,
@@ -84,6 +106,7 @@ fn unmet_at(id: u32, line: Option<u32>, why: BreakpointNote) -> PlacedBreakpoint
     PlacedBreakpoint {
         id,
         line,
+        address: None,
         options: NO_OPTIONS,
         is_verified: false,
         note: Some(why),
@@ -225,7 +248,7 @@ pub fn label_points(
     let mut free = room;
     let mut left = labels;
     while let Some((label, later)) = left.split_first() {
-        let point = label_point(id_at(0, index), free, label)?;
+        let point = label_point(id_at(LABEL_NUMBER, index), free, label)?;
         free = room_after(free, &point);
         points.push(point)?;
         index += 1;
@@ -234,33 +257,16 @@ pub fn label_points(
     Ok(points)
 }
 
-/// The breakpoints at labels, as long as there is no program.
-pub fn unlaunched_labels(
-    alloc: Global,
-    labels: &[FunctionBreakpoint],
-) -> Result<Sequence<PlacedBreakpoint>, AllocError>
-    requires { length labels.now ≤ 256 }
-    ensures { IfOk result (λ points. points ≡ unlaunched_labels 0 labels.now) }
-{
-    let mut points = Sequence::new(alloc);
-    let mut index = 0;
-    let mut left = labels;
-    while let Some((label, later)) = left.split_first() {
-        let note = why_unmet(&BreakpointNote::NotLaunched, label.is_plain)?;
-        points.push(unmet_at(id_at(0, index), None, note))?;
-        index += 1;
-        left = later;
-    }
-    Ok(points)
-}
+// ---- breakpoints beside the lines
 
-// A breakpoint that is met where data changes.
-fn watched_at(id: u32, condition: Option<Text>) -> PlacedBreakpoint
-    ensures { result ≡ watched_at id condition }
+// A breakpoint that is met at this address, or on data.
+fn met_where(id: u32, address: Option<u16>, condition: Option<Text>) -> PlacedBreakpoint
+    ensures { result ≡ met_where id address condition }
 {
     PlacedBreakpoint {
         id,
         line: None,
+        address,
         options: BreakpointOptions {
             condition,
             log_message: None,
@@ -270,15 +276,44 @@ fn watched_at(id: u32, condition: Option<Text>) -> PlacedBreakpoint
     }
 }
 
-fn data_point(index: usize, checked: &CheckedData) -> Result<PlacedBreakpoint, AllocError>
-    requires { index < 256 }
-    ensures { IfOk result (λ point. point ≡ data_point index checked.now) }
+// A breakpoint of a list, in which its place alone says its number.
+trait Listed {
+    // As an editor is told of it at this place.
+    ghost point: { ℕ → Self → PlacedBreakpoint };
+
+    fn point(&self, index: usize) -> Result<PlacedBreakpoint, AllocError>
+        requires { index < 256 }
+        ensures { IfOk result (λ placed. placed ≡ point index self.now) };
+}
+
+fn listed_points<T: Listed>(
+    alloc: Global,
+    breakpoints: &[T],
+) -> Result<Sequence<PlacedBreakpoint>, AllocError>
+    requires { length breakpoints.now ≤ 256 }
+    ensures { IfOk result (λ points. points ≡ points_by T.point 0 breakpoints.now) }
 {
-    let id = id_at(DATA_NUMBER, index);
-    match &checked.objection {
-        Some(why) => Ok(unmet_at(id, None, why.clone()?)),
-        None if index < MOST_DATA => Ok(watched_at(id, checked.condition.clone()?)),
-        None => Ok(unmet_at(id, None, BreakpointNote::TooManyData)),
+    let mut points = Sequence::new(alloc);
+    let mut index = 0;
+    let mut left = breakpoints;
+    while let Some((first, later)) = left.split_first() {
+        points.push(first.point(index)?)?;
+        index += 1;
+        left = later;
+    }
+    Ok(points)
+}
+
+impl Listed for CheckedData {
+    ghost point = { data_point };
+
+    fn point(&self, index: usize) -> Result<PlacedBreakpoint, AllocError> {
+        let id = id_at(DATA_NUMBER, index);
+        match &self.objection {
+            Some(why) => Ok(unmet_at(id, None, why.clone()?)),
+            None if index < MOST_DATA => Ok(met_where(id, None, self.condition.clone()?)),
+            None => Ok(unmet_at(id, None, BreakpointNote::TooManyData)),
+        }
     }
 }
 
@@ -290,15 +325,67 @@ pub fn data_points(
     requires { length checked.now ≤ 256 }
     ensures { IfOk result (λ points. points ≡ data_points 0 checked.now) }
 {
-    let mut points = Sequence::new(alloc);
-    let mut index = 0;
-    let mut left = checked;
-    while let Some((first, later)) = left.split_first() {
-        points.push(data_point(index, first)?)?;
-        index += 1;
-        left = later;
+    listed_points(alloc, checked)
+}
+
+impl Listed for CheckedInstruction {
+    ghost point = { instruction_point };
+
+    fn point(&self, index: usize) -> Result<PlacedBreakpoint, AllocError> {
+        let id = id_at(INSTRUCTION_NUMBER, index);
+        match (&self.objection, self.address) {
+            (Some(why), _) => Ok(unmet_at(id, None, why.clone()?)),
+            (None, None) => Ok(unmet_at(id, None, BreakpointNote::NoAddress)),
+            (None, Some(address)) => Ok(met_where(id, Some(address), self.condition.clone()?)),
+        }
     }
-    Ok(points)
+}
+
+/// The breakpoints at instructions of a program.
+pub fn instruction_points(
+    alloc: Global,
+    checked: &[CheckedInstruction],
+) -> Result<Sequence<PlacedBreakpoint>, AllocError>
+    requires { length checked.now ≤ 256 }
+    ensures { IfOk result (λ points. points ≡ instruction_points 0 checked.now) }
+{
+    listed_points(alloc, checked)
+}
+
+// ---- as long as there is no program
+
+fn unlaunched_at(id: u32, is_plain: bool) -> Result<PlacedBreakpoint, AllocError>
+    ensures { IfOk result (λ point. point ≡ unlaunched_at id is_plain) }
+{
+    let why = why_unmet(&BreakpointNote::NotLaunched, is_plain)?;
+    Ok(unmet_at(id, None, why))
+}
+
+impl Listed for FunctionBreakpoint {
+    ghost point = { unlaunched_label };
+
+    fn point(&self, index: usize) -> Result<PlacedBreakpoint, AllocError> {
+        unlaunched_at(id_at(LABEL_NUMBER, index), self.is_plain)
+    }
+}
+
+/// The breakpoints at labels, as long as there is no program.
+pub fn unlaunched_labels(
+    alloc: Global,
+    labels: &[FunctionBreakpoint],
+) -> Result<Sequence<PlacedBreakpoint>, AllocError>
+    requires { length labels.now ≤ 256 }
+    ensures { IfOk result (λ points. points ≡ unlaunched_labels 0 labels.now) }
+{
+    listed_points(alloc, labels)
+}
+
+impl Listed for DataBreakpoint {
+    ghost point = { unlaunched_datum };
+
+    fn point(&self, index: usize) -> Result<PlacedBreakpoint, AllocError> {
+        unlaunched_at(id_at(DATA_NUMBER, index), self.is_plain)
+    }
 }
 
 /// The breakpoints on data, as long as there is no program.
@@ -309,14 +396,24 @@ pub fn unlaunched_data(
     requires { length breakpoints.now ≤ 256 }
     ensures { IfOk result (λ points. points ≡ unlaunched_data 0 breakpoints.now) }
 {
-    let mut points = Sequence::new(alloc);
-    let mut index = 0;
-    let mut left = breakpoints;
-    while let Some((first, later)) = left.split_first() {
-        let note = why_unmet(&BreakpointNote::NotLaunched, first.is_plain)?;
-        points.push(unmet_at(id_at(DATA_NUMBER, index), None, note))?;
-        index += 1;
-        left = later;
+    listed_points(alloc, breakpoints)
+}
+
+impl Listed for InstructionBreakpoint {
+    ghost point = { unlaunched_instruction };
+
+    fn point(&self, index: usize) -> Result<PlacedBreakpoint, AllocError> {
+        unlaunched_at(id_at(INSTRUCTION_NUMBER, index), self.is_plain)
     }
-    Ok(points)
+}
+
+/// The breakpoints at instructions, as long as there is no program.
+pub fn unlaunched_instructions(
+    alloc: Global,
+    breakpoints: &[InstructionBreakpoint],
+) -> Result<Sequence<PlacedBreakpoint>, AllocError>
+    requires { length breakpoints.now ≤ 256 }
+    ensures { IfOk result (λ points. points ≡ unlaunched_instructions 0 breakpoints.now) }
+{
+    listed_points(alloc, breakpoints)
 }

@@ -4,14 +4,16 @@ ghost use Rattle.dap_points.specs.Points.{no_points, place_of, number_of, has_pl
 
 use base_text::sequence::Sequence;
 use base_text::text::Text;
-use dap_editor::request::{DataBreakpoint, FunctionBreakpoint, LineBreakpoint};
+use dap_editor::request::{
+    DataBreakpoint, FunctionBreakpoint, InstructionBreakpoint, LineBreakpoint,
+};
 use std::alloc::{AllocError, Global};
 use std::marker::Model;
 
 /// The most sources whose breakpoints are kept.
 pub const MOST_SOURCES: usize = 1024;
 
-/// The most lines of a source, the most labels, and the most breakpoints on data, that are used.
+/// The most breakpoints that are used of a request: on lines, at labels, on data or at instructions.
 pub const MOST_POINTS: usize = 256;
 
 /// The breakpoints of a source, in the order of the request.
@@ -31,13 +33,14 @@ impl SourceLines {
     }
 }
 
-/// The breakpoints that an editor has set: on the lines of each source, at labels, and on data. A source
-/// whose breakpoints are removed keeps its place.
+/// The breakpoints that an editor has set: on the lines of each source, at labels, on data, and at
+/// instructions. A source whose breakpoints are removed keeps its place.
 #[derive(Drop)]
 pub struct WantedBreakpoints {
     lists: Vec<SourceLines>,
     functions: Sequence<FunctionBreakpoint>,
     on_data: Sequence<DataBreakpoint>,
+    instructions: Sequence<InstructionBreakpoint>,
 }
 
 impl Model for WantedBreakpoints {
@@ -50,6 +53,7 @@ impl Model for WantedBreakpoints {
       lists = p.lists.items;
       functions = p.functions;
       on_data = p.on_data;
+      instructions = p.instructions;
     } };
 
     // Room for all is made at the start.
@@ -86,6 +90,7 @@ impl WantedBreakpoints {
             lists,
             functions: Sequence::new(alloc),
             on_data: Sequence::new(alloc),
+            instructions: Sequence::new(alloc),
         })
     }
 
@@ -145,6 +150,14 @@ impl WantedBreakpoints {
         first(self.on_data.as_slice())
     }
 
+    /// The breakpoints at instructions.
+    pub fn instructions(&self) -> &[InstructionBreakpoint]
+        ensures points { result.now ≡ take 256 self.now.instructions }
+        ensures few { length result.now ≤ 256 }
+    {
+        first(self.instructions.as_slice())
+    }
+
     /// Gives a source these breakpoints, without allocating.
     pub fn set_lines(&mut self, path: Text, lines: Sequence<LineBreakpoint>)
         requires { has_place path self.old.lists ≡ true }
@@ -170,5 +183,12 @@ impl WantedBreakpoints {
         ensures { self.new ≡ record self.old { on_data = points } }
     {
         self.on_data = points;
+    }
+
+    /// Replaces the breakpoints at instructions by these.
+    pub fn set_instructions(&mut self, points: Sequence<InstructionBreakpoint>)
+        ensures { self.new ≡ record self.old { instructions = points } }
+    {
+        self.instructions = points;
     }
 }

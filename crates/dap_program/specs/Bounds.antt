@@ -33,6 +33,8 @@ is_bounded (asked.Board c) = is_command_bounded c
 is_bounded (asked.Editor (editor.SetBreakpoints path lines)) = nat_le (length lines) 256
 is_bounded (asked.Editor (editor.SetFunctionBreakpoints functions)) = nat_le (length functions) 256
 is_bounded (asked.Editor (editor.SetDataBreakpoints breakpoints)) = nat_le (length breakpoints) 256
+is_bounded (asked.Editor (editor.SetInstructionBreakpoints breakpoints)) =
+    nat_le (length breakpoints) 256
 is_bounded (asked.Editor (editor.Disassemble address offset instruction_offset count)) =
     is_near instruction_offset && is_few count
 is_bounded other = true

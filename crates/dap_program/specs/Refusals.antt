@@ -1,5 +1,5 @@
 -- The text of each refusal, for the user (Debug Adapter Protocol, "Response", `message`).
-use Rattle.std.specs.Prelude.{ℕ, ◌++◌, codes, decimal}
+use Rattle.std.specs.Prelude.{ℕ, [], ◌∷◌, ◌++◌, codes, decimal}
 use Rattle.base_text.specs.Bytes.{Text}
 use Rattle.asm_syntax.specs.Faults.{fault_name}
 use Rattle.asm_syntax.specs.declared.fault.FaultKind.{FaultKind}
@@ -7,6 +7,7 @@ use Rattle.lab_core.specs.declared.fault.EventFault.{EventFault}
 use Rattle.lab_core.specs.declared.fault.EventFault.TheVariants as fault
 use Rattle.dap_editor.specs.declared.request.RequestFault.{RequestFault}
 use Rattle.dap_editor.specs.declared.request.RequestFault.TheVariants as request
+use Rattle.dap_inspect.specs.Words.{told_at}
 
 -- what a board refuses
 abbrev pub board_refusal : EventFault → Text
@@ -31,8 +32,15 @@ abbrev pub request_refusal : RequestFault → Text
 request_refusal request.NotRequest = codes "not a request"
 request_refusal request.UnknownCommand = codes "unknown command"
 request_refusal request.Arguments = codes "bad arguments"
+request_refusal (request.Argument name) = codes "bad arguments: " ++ name
 
--- the fault in a program, at a line and a column from 1
-abbrev pub assembly_refusal : ℕ → ℕ → FaultKind → Text
-assembly_refusal line column kind =
+-- the word that a fault is told with, if there is one
+abbrev pub behind_fault : Text → Text
+behind_fault [] = []
+behind_fault (b ∷ word) = codes ": " ++ (b ∷ word)
+
+-- the fault in a program's text, at a line and a column from 1
+abbrev pub assembly_refusal : ℕ → ℕ → FaultKind → Text → Text
+assembly_refusal line column kind text =
     decimal line ++ codes ":" ++ decimal column ++ codes " " ++ fault_name kind
+    ++ behind_fault (told_at line column kind text)

@@ -73,6 +73,9 @@ pub fn is_bounded(asked: &RequestContent) -> bool
             <= MOST_POINTS,
         RequestContent::Editor(EditorCommand::SetDataBreakpoints(breakpoints)) => breakpoints.len()
             <= MOST_POINTS,
+        RequestContent::Editor(EditorCommand::SetInstructionBreakpoints(breakpoints)) => {
+            breakpoints.len() <= MOST_POINTS
+        }
         RequestContent::Editor(
             EditorCommand::Disassemble {
                 instruction_offset,

@@ -14,14 +14,14 @@ use dap_messages::message::{EditorEvent, EditorOutcome, Message, OutputCategory,
 use lab_core::fault::EventFault;
 use std::alloc::{AllocError, Global};
 
-fn load_refusal(alloc: Global, fault: LoadFault) -> Result<Text, AllocError>
-    ensures { IfOk result (λ text. text ≡ load_refusal fault) }
+fn load_refusal(alloc: Global, text: &str, fault: LoadFault) -> Result<Text, AllocError>
+    ensures { IfOk result (λ refusal. refusal ≡ load_refusal text.now fault) }
 {
     match fault {
         LoadFault::OutOfMemory => Text::copy_of(alloc, "out of memory"),
         LoadFault::NoStart => Text::copy_of(alloc, "the program has no start: END names none"),
         LoadFault::Refused(EventFault::Assembly(AsmFault::At { line, column, kind })) => {
-            assembly_refusal(alloc, line, column, kind)
+            assembly_refusal(alloc, line, column, kind, text)
         }
         LoadFault::Refused(fault) => Text::copy_of(alloc, board_refusal(fault)),
     }
@@ -39,27 +39,29 @@ fn fault_line(
     line: usize,
     column: usize,
     kind: FaultKind,
+    text: &str,
 ) -> Result<Bytes, AllocError>
-    ensures { IfOk result (λ bytes. bytes ≡ assembly_refusal line column kind ++ codes "\n") }
+    ensures { IfOk result (λ bytes. bytes ≡ assembly_refusal line column kind text.now ++ codes "\n") }
 {
-    let text = assembly_refusal(alloc, line, column, kind)?;
-    let mut bytes = text.as_str().as_bytes().to_vec(alloc)?;
+    let refusal = assembly_refusal(alloc, line, column, kind, text)?;
+    let mut bytes = refusal.as_str().as_bytes().to_vec(alloc)?;
     bytes.push(b'\n')?;
     Ok(Bytes::from(bytes))
 }
 
 fn load_event(
-    path: &Text,
     alloc: Global,
+    path: &Text,
+    text: &str,
     fault: LoadFault,
 ) -> Result<Option<EditorEvent>, AllocError>
-    ensures { IfOk result (λ event. event ≡ load_event path.now fault) }
+    ensures { IfOk result (λ event. event ≡ load_event path.now text.now fault) }
 {
     let LoadFault::Refused(EventFault::Assembly(AsmFault::At { line, column, kind })) = fault else {
         return Ok(None);
     };
     let path = path.clone()?;
-    let bytes = fault_line(alloc, line, column, kind)?;
+    let bytes = fault_line(alloc, line, column, kind, text)?;
     let place = SourcePlace {
         path,
         line: told_number(line),
@@ -82,21 +84,22 @@ fn push_some(messages: &mut Messages, event: Option<EditorEvent>)
     }
 }
 
-/// The messages about a launch or a restart of the program at this path that fails.
+/// The messages about a launch or a restart that fails, of the program with this path and text.
 pub fn failure(
     alloc: Global,
     caller: RequestId,
     path: &Text,
+    text: &str,
     fault: LoadFault,
 ) -> Result<Sequence<Message>, AllocError>
     ensures { IfOk result (λ messages. messages
-        ≡ turn_messages caller (EditorOutcome.Refused (load_refusal fault))
-        (option_to_list (load_event path.now fault))) }
+        ≡ turn_messages caller (EditorOutcome.Refused (load_refusal text.now fault))
+        (option_to_list (load_event path.now text.now fault))) }
 {
     let mut messages = Messages::new(alloc)?;
-    let text = load_refusal(alloc, fault)?;
-    let event = load_event(path, alloc, fault)?;
-    messages.push_response(caller, EditorOutcome::Refused(text));
+    let refusal = load_refusal(alloc, text, fault)?;
+    let event = load_event(alloc, path, text, fault)?;
+    messages.push_response(caller, EditorOutcome::Refused(refusal));
     push_some(&mut messages, event);
     Ok(messages.into_sequence())
 }

@@ -1,10 +1,12 @@
 //! The texts of refusals.
-ghost use Rattle.std.specs.Prelude.{◌≡◌, IfOk, string_bytes};
-ghost use Rattle.dap_program.specs.Refusals.{board_refusal, request_refusal, assembly_refusal};
+ghost use Rattle.std.specs.Prelude.{◌≡◌, ◌++◌, codes, IfOk, OnOk, string_bytes};
+ghost use Rattle.dap_program.specs.Refusals.{board_refusal, request_refusal, behind_fault};
+ghost use Rattle.dap_program.specs.Refusals.{assembly_refusal};
 
 use asm_syntax::fault::FaultKind;
 use base_text::text::Text;
 use dap_editor::request::RequestFault;
+use dap_inspect::words::told_at;
 use dap_messages::message::EditorOutcome;
 use lab_core::fault::EventFault;
 use std::alloc::{AllocError, Global};
@@ -33,29 +35,51 @@ pub fn board_refusal(fault: EventFault) -> &'static str
 }
 
 /// Why a request can't be carried out, whatever the program is.
-pub fn request_refusal(fault: RequestFault) -> &'static str
-    ensures { result.now ≡ request_refusal fault }
+pub fn request_refusal(alloc: Global, fault: &RequestFault) -> Result<Text, AllocError>
+    ensures { IfOk result (λ text. text ≡ request_refusal fault.now) }
 {
     match fault {
-        RequestFault::NotRequest => "not a request",
-        RequestFault::UnknownCommand => "unknown command",
-        RequestFault::Arguments => "bad arguments",
+        RequestFault::NotRequest => Text::copy_of(alloc, "not a request"),
+        RequestFault::UnknownCommand => Text::copy_of(alloc, "unknown command"),
+        RequestFault::Arguments => Text::copy_of(alloc, "bad arguments"),
+        RequestFault::Argument(name) => bad_argument(alloc, name.as_str()),
     }
 }
 
-/// The fault in a program: `LINE:COLUMN NAME`.
+fn bad_argument(alloc: Global, name: &str) -> Result<Text, AllocError>
+    ensures { IfOk result (λ text. text ≡ codes "bad arguments: " ++ name.now) }
+{
+    let mut text = String::from_str(alloc, "bad arguments: ")?;
+    text.push_str(name)?;
+    Ok(Text::from(text))
+}
+
+fn push_behind_fault(text: &mut String, word: &str) -> Result<(), AllocError>
+    ensures { OnOk result (string_bytes text.new ≡ string_bytes text.old ++ behind_fault word.now) }
+{
+    if word.is_empty() {
+        return Ok(());
+    }
+    text.push_str(": ")?;
+    text.push_str(word)
+}
+
+/// The fault in a program's text: `LINE:COLUMN NAME`, and the word there.
 pub fn assembly_refusal(
     alloc: Global,
     line: usize,
     column: usize,
     kind: FaultKind,
+    text: &str,
 ) -> Result<Text, AllocError>
-    ensures { IfOk result (λ text. text ≡ assembly_refusal line column kind) }
+    ensures { IfOk result (λ refusal. refusal ≡ assembly_refusal line column kind text.now) }
 {
     let name = kind.name();
-    let mut text = String::new(alloc);
-    write!(text, "{line}:{column} {name}")?;
-    Ok(Text::from(text))
+    let word = told_at(alloc, text, line, column, kind)?;
+    let mut refusal = String::new(alloc);
+    write!(refusal, "{line}:{column} {name}")?;
+    push_behind_fault(&mut refusal, word.as_str())?;
+    Ok(Text::from(refusal))
 }
 
 /// The outcome of a request that is refused with this text.

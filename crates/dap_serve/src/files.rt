@@ -1,5 +1,6 @@
 //! The files of programs.
 use base_streams::std_io::StdInlet;
+use base_text::text::Text;
 use cli_io::reading::read_all;
 use cli_io::status::Status;
 use dap_debugger::incoming::ProgramFiles;
@@ -37,9 +38,19 @@ fn found_by_error(error: io::Error) -> Result<FileText, AllocError> {
     }
 }
 
+// The canonical path of a file that gave this error.
+fn canonical_by_error(error: io::Error) -> Result<Option<Text>, AllocError> {
+    let kind = error.kind();
+    drop(error);
+    match kind {
+        ErrorKind::OutOfMemory => Err(AllocError),
+        _ => Ok(None),
+    }
+}
+
 impl<'a, R: Files> ProgramFiles for HostFiles<'a, R> {
     // Others may change a file at any time.
-    ghost may_find = { λ _ path file. Unit {0} };
+    ghost known = { λ _. record { may_find = λ path file. Unit {0}; may_be_at = λ path found. Unit {0} } };
 
     // Folders, pipes and the like aren't read: a pipe might keep the debugger waiting.
     fn read(&self, alloc: Global, path: &str) -> Result<FileText, AllocError> {
@@ -51,6 +62,13 @@ impl<'a, R: Files> ProgramFiles for HostFiles<'a, R> {
         match fs::open(self.rt, path) {
             Ok(file) => read_open(alloc, file),
             Err(error) => found_by_error(error),
+        }
+    }
+
+    fn canonical(&self, alloc: Global, path: &str) -> Result<Option<Text>, AllocError> {
+        match self.rt.canonicalize(alloc, path) {
+            Ok(path) => Ok(Some(Text::from(path.into_string()))),
+            Err(error) => canonical_by_error(error),
         }
     }
 }

@@ -25,17 +25,14 @@ use Rattle.lab_core.specs.Changes.{after_write}
 use Rattle.lab_core.specs.Slices.{after_steps}
 use Rattle.dap_messages.specs.declared.message.PlacedBreakpoint.{PlacedBreakpoint}
 use Rattle.dap_editor.specs.declared.request.Launch.{Launch}
-use Rattle.dap_editor.specs.declared.request.LineBreakpoint.{LineBreakpoint}
-use Rattle.dap_editor.specs.declared.request.FunctionBreakpoint.{FunctionBreakpoint}
 use Rattle.dap_program.specs.declared.load.LoadFault.{LoadFault}
 use Rattle.dap_program.specs.Boards.{board_after, after, begin_run}
 use Rattle.dap_program.specs.Breakpoints.{board_armed_at, lines_on, labels_behind}
 use Rattle.dap_program.specs.Loading.{attached_where, board_to_load_on, start_of, with_start, loaded_by}
 use Rattle.dap_program.specs.Loading.{load_result}
-use Rattle.dap_launch.specs.Programs.{with_input}
+use Rattle.dap_launch.specs.Programs.{ProgramLists, with_input}
 use Rattle.dap_launch.specs.declared.program.Program.{Program}
-use Rattle.dap_session.specs.Breakpoints.{armed_where, labels_armed}
-use Rattle.dap_points.specs.Points.{WantedBreakpointsState, number_of, lines_at}
+use Rattle.dap_session.specs.Breakpoints.{armed_where}
 
 -- the run is the same, and so is the attachment
 pub record SameRun (b b' : Board) : Type 0 where
@@ -125,21 +122,12 @@ pub kept_armed : (path : Text) (lines labels : List PlacedBreakpoint) (b : Board
     → SameRun b (board_armed_at path lines labels b)
 kept_armed path lines labels b = kept_after b _ (kept_lines path _ b)
 
-pub kept_where : (o : Option Program) (number : ℕ) (lines : List LineBreakpoint)
-    (functions : List FunctionBreakpoint) (b : Board)
-    → SameRun b (armed_where o number lines functions b)
-kept_where None number lines functions b = same b
-kept_where (Some p) number lines functions b =
-    kept_armed p.launch.program (lines_on b number lines)
-    (labels_behind b (lines_on b number lines) functions) b
-
-pub kept_labels : (o : Option Program) (functions : List FunctionBreakpoint)
-    (points : WantedBreakpointsState) (b : Board)
-    → SameRun b (labels_armed o functions points b)
-kept_labels None functions points b = same b
-kept_labels (Some p) functions points b =
-    let path = p.launch.program in
-    kept_where (Some p) (number_of path points.lists) (lines_at path points.lists) functions b
+pub kept_where : (o : Option Program) (wanted : Program → ProgramLists) (b : Board)
+    → SameRun b (armed_where o wanted b)
+kept_where None wanted b = same b
+kept_where (Some p) wanted b =
+    let on_lines = lines_on b (wanted p).number (wanted p).lines in
+    kept_armed p.launch.program on_lines (labels_behind b on_lines (wanted p).functions) b
 
 -- ---- bytes that are written
 

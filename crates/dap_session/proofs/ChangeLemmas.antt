@@ -40,8 +40,6 @@ use Rattle.dap_messages.specs.declared.message.UndefinedOpcode.{UndefinedOpcode}
 use Rattle.dap_editor.specs.declared.request.EditorCommand.{EditorCommand}
 use Rattle.dap_editor.specs.declared.request.EditorCommand.TheVariants as editor
 use Rattle.dap_messages.specs.declared.message.PlacedBreakpoint.{PlacedBreakpoint}
-use Rattle.dap_editor.specs.declared.request.LineBreakpoint.{LineBreakpoint}
-use Rattle.dap_editor.specs.declared.request.FunctionBreakpoint.{FunctionBreakpoint}
 use Rattle.dap_editor.specs.declared.request.EvaluateContext.{EvaluateContext}
 use Rattle.dap_editor.specs.declared.request.EvaluateContext.TheVariants as context
 use Rattle.dap_editor.specs.declared.request.RequestContent.{RequestContent}
@@ -49,7 +47,7 @@ use Rattle.dap_editor.specs.declared.request.RequestContent.TheVariants as asked
 use Rattle.dap_editor.specs.declared.request.SignedOffset.{SignedOffset}
 use Rattle.dap_inspect.specs.declared.fault.EvaluateFault.{EvaluateFault}
 use Rattle.dap_inspect.specs.Expressions.{expression_text}
-use Rattle.dap_points.specs.Points.{WantedBreakpointsState, has_place, number_of, lines_at}
+use Rattle.dap_points.specs.Points.{has_place}
 use Rattle.dap_program.specs.declared.messages.FollowUp.{FollowUp}
 use Rattle.dap_program.specs.declared.messages.FollowUp.TheVariants as follow
 use Rattle.dap_program.specs.Boards.{board_after}
@@ -62,9 +60,10 @@ use Rattle.dap_launch.specs.declared.program.Phase.{Phase}
 use Rattle.dap_launch.specs.declared.program.Phase.TheVariants as phase
 use Rattle.dap_launch.specs.declared.program.Program.{Program}
 use Rattle.dap_launch.specs.Lives.{in_phase, is_live, end_of, exception_of}
+use Rattle.dap_launch.specs.Programs.{ProgramLists}
 use Rattle.dap_session.specs.States.{SessionState}
 use Rattle.dap_session.specs.Turns.{Replied, change_follow}
-use Rattle.dap_session.specs.Breakpoints.{program_at, armed_where, labels_armed}
+use Rattle.dap_session.specs.Breakpoints.{program_at, armed_where}
 use Rattle.dap_session.specs.Evaluations.{command_reply}
 use Rattle.dap_inputs.specs.Prompt.{behind, byte_spelled, byte_command, command_with}
 use Rattle.dap_session.specs.Evaluations.{value_told, prompting, evaluating}
@@ -117,21 +116,12 @@ kept_armed path lines labels b =
     kept_after b _ (kept_source (source_at b.sources path) b _
     (λ n text. record { machine = refl; past = refl; trace = refl }))
 
-pub kept_where : (o : Option Program) (number : ℕ) (lines : List LineBreakpoint)
-    (functions : List FunctionBreakpoint) (b : Board)
-    → SameParts b (armed_where o number lines functions b)
-kept_where None number lines functions b = same b
-kept_where (Some p) number lines functions b =
-    kept_armed p.launch.program (lines_on b number lines)
-    (labels_behind b (lines_on b number lines) functions) b
-
-pub kept_labels : (o : Option Program) (functions : List FunctionBreakpoint)
-    (points : WantedBreakpointsState) (b : Board)
-    → SameParts b (labels_armed o functions points b)
-kept_labels None functions points b = same b
-kept_labels (Some p) functions points b =
-    let path = p.launch.program in
-    kept_where (Some p) (number_of path points.lists) (lines_at path points.lists) functions b
+pub kept_where : (o : Option Program) (wanted : Program → ProgramLists) (b : Board)
+    → SameParts b (armed_where o wanted b)
+kept_where None wanted b = same b
+kept_where (Some p) wanted b =
+    let on_lines = lines_on b (wanted p).number (wanted p).lines in
+    kept_armed p.launch.program on_lines (labels_behind b on_lines (wanted p).functions) b
 
 pub kept_pause : (a : Bool) (r : RunState) (b : Board)
     → KeepsParts b (while_attached a (while_running r (Ok (answer.Accepted, board_stopped b))))
@@ -336,9 +326,9 @@ edit_told (editor.Initialize supported) s =
 edit_told editor.Terminate s = λ w. absurd (dead_over s.settings.program w.live w.program)
 edit_told (editor.SetBreakpoints path lines) s =
     either (has_place path s.settings.points.lists) s _ _
-    (λ w. inl (kept_where (program_at path s.settings.program) _ _ _ s.board)) (λ w. inl (same s.board))
+    (λ w. inl (kept_where (program_at path s.settings.program) _ s.board)) (λ w. inl (same s.board))
 edit_told (editor.SetFunctionBreakpoints functions) s =
-    λ w. inl (kept_labels s.settings.program functions s.settings.points s.board)
+    λ w. inl (kept_where s.settings.program _ s.board)
 edit_told editor.ExceptionInfo s = explained (exception_of s.settings.program) s
 edit_told (editor.Evaluate expression c) s = evaluated expression c s
 edit_told (editor.WriteMemory address offset bytes) s = written address offset bytes s

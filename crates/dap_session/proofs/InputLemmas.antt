@@ -72,7 +72,7 @@ use Rattle.dap_session.specs.Requests.{asking_unless, turn}
 use Rattle.dap_session.specs.Laws.{SameParts, asks_to_load, has_run, has_begun, is_begun}
 use Rattle.dap_session.specs.Rewinds.{RunLasts, can_go_back}
 use Rattle.std.proofs.lemmas.Bool.{and_parts}
-use Rattle.dap_session.proofs.ChangeLemmas.{same, KeepsParts, kept_show, kept_dump, kept_where, kept_labels}
+use Rattle.dap_session.proofs.ChangeLemmas.{same, KeepsParts, kept_show, kept_dump, kept_where}
 use Rattle.dap_session.proofs.ChangeLemmas.{kept_pause, kept_resume}
 
 abbrev Makes : Option Input → SessionState → Replied → Type 0
@@ -334,11 +334,12 @@ edit_made editor.Terminate s =
     λ l. absurd (over_lasts s.settings.program (begun_before (terminating s).state l.after))
 edit_made (editor.SetBreakpoints path lines) s =
     either (has_place path s.settings.points.lists) None s _ _
-    (λ l. kept_where (program_at path s.settings.program) _ _ _ s.board) (λ l. same s.board)
+    (λ l. kept_where (program_at path s.settings.program) _ s.board) (λ l. same s.board)
 edit_made (editor.SetFunctionBreakpoints functions) s =
-    λ l. kept_labels s.settings.program functions s.settings.points s.board
+    λ l. kept_where s.settings.program _ s.board
 edit_made (editor.DataBreakpointInfo query) s = λ l. same s.board
 edit_made (editor.SetDataBreakpoints breakpoints) s = λ l. same s.board
+edit_made (editor.SetInstructionBreakpoints breakpoints) s = λ l. same s.board
 edit_made (editor.BreakpointLocations path first last) s = λ l. same s.board
 edit_made editor.ExceptionInfo s = explained_made (exception_of s.settings.program) s
 edit_made (editor.Evaluate expression c) s = evaluated_made expression c s

@@ -144,27 +144,27 @@ silent_opening o points f =
     silent-append (first_events o) (changed_events points ++ events_of f) (silent_first o)
     (silent-append (changed_events points) (events_of f) (silent_changed points) (silent_follow f))
 
-silent_refused : (path : Text) (f : EventFault)
-    → IsSilent (option_to_list (load_event path (fault.Refused f)))
-silent_refused path (refused.Assembly (asm.At line column kind)) = refl
-silent_refused path (refused.Assembly asm.OutOfMemory) = refl
-silent_refused path _ = refl
+silent_refused : (path text : Text) (f : EventFault)
+    → IsSilent (option_to_list (load_event path text (fault.Refused f)))
+silent_refused path text (refused.Assembly (asm.At line column kind)) = refl
+silent_refused path text (refused.Assembly asm.OutOfMemory) = refl
+silent_refused path text _ = refl
 
-silent_load : (path : Text) (f : LoadFault) → IsSilent (option_to_list (load_event path f))
-silent_load path fault.OutOfMemory = refl
-silent_load path fault.NoStart = refl
-silent_load path (fault.Refused f) = silent_refused path f
+silent_load : (path text : Text) (f : LoadFault) → IsSilent (option_to_list (load_event path text f))
+silent_load path text fault.OutOfMemory = refl
+silent_load path text fault.NoStart = refl
+silent_load path text (fault.Refused f) = silent_refused path text f
 
-silent_loading : (r : Result (Board × ℕ) LoadFault) (o : LoadReason) (l : LaunchOf) (s : SessionState)
-    → IsSilent (loading_as r o l s).events
-silent_loading (Ok (b, start)) o l s =
+silent_loading : (r : Result (Board × ℕ) LoadFault) (o : LoadReason) (l : LaunchOf) (text : Text)
+    (s : SessionState) → IsSilent (loading_as r o l text s).events
+silent_loading (Ok (b, start)) o l text s =
     let p = program_of l start in
     silent_opening o (all_changed s.settings.program s.board p s.settings.points b) (started_follow o p s)
-silent_loading (Err f) o l s = silent_load l.program f
+silent_loading (Err f) o l text s = silent_load l.program text f
 
 silent_text : (t : Result Text Text) (o : LoadReason) (l : LaunchOf) (s : SessionState)
     → IsSilent (by_text t s (λ text. loading o l text s)).events
-silent_text (Ok text) o l s = silent_loading (load_result l text) o l s
+silent_text (Ok text) o l s = silent_loading (load_result l text) o l text s
 silent_text (Err message) o l s = refl
 
 silent_launch : (p : Option Program) (l : LaunchOf) (found : Option FileText) (s : SessionState)

@@ -166,6 +166,7 @@ edit_left (editor.SetBreakpoints path ls) s = lines path ls s
 edit_left (editor.SetFunctionBreakpoints functions) s = λ text is. absurd cc
 edit_left (editor.DataBreakpointInfo query) s = λ text is. absurd cc
 edit_left (editor.SetDataBreakpoints breakpoints) s = λ text is. absurd cc
+edit_left (editor.SetInstructionBreakpoints breakpoints) s = λ text is. absurd cc
 edit_left (editor.BreakpointLocations path first last) s = λ text is. absurd cc
 edit_left (editor.SetExceptionBreakpoints filters) s = λ text is. absurd cc
 edit_left editor.ExceptionInfo s = explained (exception_of s.settings.program) s
@@ -180,14 +181,14 @@ edit_left other s = λ text is. same s
 
 -- ---- programs that are loaded
 
-loaded : (r : Result (Board × ℕ) LoadFault) (o : LoadReason) (l : LaunchOf) (s : SessionState)
-    → RefusesTurn s (loading_as r o l s)
-loaded (Ok (b, start)) o l s = λ text is. absurd cc
-loaded (Err f) o l s = λ text is. same s
+loaded : (r : Result (Board × ℕ) LoadFault) (o : LoadReason) (l : LaunchOf) (text : Text) (s : SessionState)
+    → RefusesTurn s (loading_as r o l text s)
+loaded (Ok (b, start)) o l text s = λ message is. absurd cc
+loaded (Err f) o l text s = λ message is. same s
 
 text_left : (t : Result Text Text) (o : LoadReason) (l : LaunchOf) (s : SessionState)
     → RefusesTurn s (by_text t s (λ text. loading o l text s))
-text_left (Ok text) o l s = loaded (load_result l text) o l s
+text_left (Ok text) o l s = loaded (load_result l text) o l text s
 text_left (Err message) o l s = λ text is. same s
 
 launched : (p : Option Program) (l : LaunchOf) (found : Option FileText) (s : SessionState)

@@ -155,15 +155,17 @@ calm_first : (o : LoadReason) → IsCalm (first_events o)
 calm_first Launch = record { stops = λ d. refl; ends = refl }
 calm_first Restart = calm_none
 
-calm_refused : (path : Text) (f : EventFault) → IsCalm (option_to_list (load_event path (fault.Refused f)))
-calm_refused path (refused.Assembly (asm.At line column kind)) = record { stops = λ d. refl; ends = refl }
-calm_refused path (refused.Assembly asm.OutOfMemory) = calm_none
-calm_refused path _ = calm_none
+calm_refused : (path text : Text) (f : EventFault)
+    → IsCalm (option_to_list (load_event path text (fault.Refused f)))
+calm_refused path text (refused.Assembly (asm.At line column kind)) =
+    record { stops = λ d. refl; ends = refl }
+calm_refused path text (refused.Assembly asm.OutOfMemory) = calm_none
+calm_refused path text _ = calm_none
 
-calm_load : (path : Text) (f : LoadFault) → IsCalm (option_to_list (load_event path f))
-calm_load path fault.OutOfMemory = calm_none
-calm_load path fault.NoStart = calm_none
-calm_load path (fault.Refused f) = calm_refused path f
+calm_load : (path text : Text) (f : LoadFault) → IsCalm (option_to_list (load_event path text f))
+calm_load path text fault.OutOfMemory = calm_none
+calm_load path text fault.NoStart = calm_none
+calm_load path text (fault.Refused f) = calm_refused path text f
 
 -- it takes the place of what was there
 abbrev put : Program → Board → SessionState → SessionState
@@ -206,19 +208,19 @@ follows_installing o l start b s reached none attached goes =
     (follows_started s.settings.is_configured o l start s board refl reached (run.run ∙ none)
     (run.is_attached ∙ attached) goes))
 
-follows_loaded : (r : Result (Board × ℕ) LoadFault) (o : LoadReason) (l : LaunchOf) (s : SessionState)
-    → IsReached (seen s) → IsLoaded l r → GoesOn (shown_for s.board.run) (going_follow o)
-    → FollowsTurn s (loading_as r o l s)
-follows_loaded (Ok (b, start)) o l s reached is goes =
+follows_loaded : (r : Result (Board × ℕ) LoadFault) (o : LoadReason) (l : LaunchOf) (text : Text)
+    (s : SessionState) → IsReached (seen s) → IsLoaded l r → GoesOn (shown_for s.board.run) (going_follow o)
+    → FollowsTurn s (loading_as r o l text s)
+follows_loaded (Ok (b, start)) o l text s reached is goes =
     follows_installing o l start b s reached is.0 is.1 goes
-follows_loaded (Err f) o l s reached is goes =
-    calm_still (option_to_list (load_event l.program f)) (seen s) reached (calm_load l.program f)
+follows_loaded (Err f) o l text s reached is goes =
+    calm_still (option_to_list (load_event l.program text f)) (seen s) reached (calm_load l.program text f)
 
 follows_text : (t : Result Text Text) (o : LoadReason) (l : LaunchOf) (s : SessionState) → IsReached (seen s)
     → GoesOn (shown_for s.board.run) (going_follow o)
     → FollowsTurn s (by_text t s (λ text. loading o l text s))
 follows_text (Ok text) o l s reached goes =
-    follows_loaded (load_result l text) o l s reached (is_loaded l text) goes
+    follows_loaded (load_result l text) o l text s reached (is_loaded l text) goes
 follows_text (Err message) o l s reached goes = (still s s reached refl).follows
 
 pub follows_launch : (o : Option Program) (l : LaunchOf) (found : Option FileText) (s : SessionState)

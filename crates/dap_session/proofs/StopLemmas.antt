@@ -55,7 +55,7 @@ use Rattle.lab_shown.specs.declared.step.StepKind.{StepKind}
 use Rattle.lab_shown.specs.declared.step.Granularity.{Granularity}
 use Rattle.dap_session.specs.States.{SessionState, no_events, session_before_requests, with_board}
 use Rattle.dap_session.specs.States.{is_running, wants_slice, with_filters}
-use Rattle.dap_session.specs.Breakpoints.{setting_data}
+use Rattle.dap_session.specs.Breakpoints.{setting_data, setting_instructions}
 use Rattle.dap_session.specs.Requests.{resuming_from, explaining, set_initialized, commanding, editing}
 use Rattle.dap_session.specs.Requests.{objection, asking}
 use Rattle.dap_session.specs.Requests.{asking_unless, turn}
@@ -147,6 +147,8 @@ goes_editing (editor.SetBreakpoints path lines) s reached = goes_lines path line
 goes_editing (editor.SetFunctionBreakpoints functions) s reached = goes_functions functions s reached
 goes_editing (editor.SetDataBreakpoints breakpoints) s reached =
     still s (setting_data breakpoints s).state reached refl
+goes_editing (editor.SetInstructionBreakpoints breakpoints) s reached =
+    still s (setting_instructions breakpoints s).state reached refl
 goes_editing (editor.SetExceptionBreakpoints filters) s reached =
     still s (with_filters filters s) reached refl
 goes_editing (editor.WriteMemory address offset bytes) s reached = goes_writing address offset bytes s reached

@@ -53,7 +53,7 @@ use Rattle.dap_session.specs.Memory.{is_stopped, writing_from, writing}
 use Rattle.dap_session.specs.Targets.{going_to}
 use Rattle.dap_session.specs.Requests.{board_done, finish_done, resetting, terminating}
 use Rattle.dap_session.specs.Laws.{has_run, shown_for}
-use Rattle.dap_session.proofs.BoardLemmas.{KeepsRun, kept_press, kept_show, kept_where, kept_labels}
+use Rattle.dap_session.proofs.BoardLemmas.{KeepsRun, kept_press, kept_show, kept_where}
 use Rattle.dap_session.proofs.BoardLemmas.{kept_written, run_interrupted, still_attached}
 use Rattle.dap_session.proofs.RunLemmas.{seen, seen_board, IsReached, both, lively, over_seen, Follows, Goes}
 use Rattle.dap_session.proofs.RunLemmas.{still, PhaseFits, ProgramFits, none_living}
@@ -162,13 +162,13 @@ pub goes_lines : (path : Text) (lines : List LineBreakpoint) (s : SessionState) 
     → GoesBy s (setting_lines path lines s)
 goes_lines path lines s reached =
     goes_either (has_place path s.settings.points.lists) s _ _
-    (still s _ reached (seen_board _ s (kept_where (program_at path s.settings.program) _ _ _ s.board)))
+    (still s _ reached (seen_board _ s (kept_where (program_at path s.settings.program) _ s.board)))
     (still s s reached refl)
 
 pub goes_functions : (functions : List FunctionBreakpoint) (s : SessionState) → IsReached (seen s)
     → GoesBy s (setting_functions functions s)
 goes_functions functions s reached =
-    still s _ reached (seen_board _ s (kept_labels s.settings.program functions s.settings.points s.board))
+    still s _ reached (seen_board _ s (kept_where s.settings.program _ s.board))
 
 goes_written : (o : Option ℕ) (bytes : Bytes) (s : SessionState) → IsReached (seen s)
     → GoesBy s (writing_from o bytes s)

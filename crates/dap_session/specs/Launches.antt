@@ -63,19 +63,19 @@ installing cause p b s =
     }
 
 -- it can't be loaded
-abbrev pub failing : Text → LoadFault → SessionState → Turn
-failing path f s = record (turn_of (refusing (load_refusal f) s)) {
+abbrev pub failing : Text → Text → LoadFault → SessionState → Turn
+failing path text f s = record (turn_of (refusing (load_refusal text f) s)) {
   events =
-      option_to_list (load_event path f);
+      option_to_list (load_event path text f);
 }
 
-abbrev pub loading_as : Result (Board × ℕ) LoadFault → LoadReason → LaunchOf → SessionState → Turn
-loading_as (Ok (b, start)) cause l s = installing cause (program_of l start) b s
-loading_as (Err f) cause l s = failing l.program f s
+abbrev pub loading_as : Result (Board × ℕ) LoadFault → LoadReason → LaunchOf → Text → SessionState → Turn
+loading_as (Ok (b, start)) cause l text s = installing cause (program_of l start) b s
+loading_as (Err f) cause l text s = failing l.program text f s
 
 -- a program's text is loaded
 abbrev pub loading : LoadReason → LaunchOf → Text → SessionState → Turn
-loading cause l text s = loading_as (load_result l text) cause l s
+loading cause l text s = loading_as (load_result l text) cause l text s
 
 -- unless its file has no text
 abbrev pub by_text : Result Text Text → SessionState → (Text → Turn) → Turn

@@ -1,11 +1,16 @@
 -- Which states a session represents.
-use Rattle.std.specs.Prelude.{◌≡◌, ℕ, Result, List, OnErr, IfOk, true}
+use Rattle.std.specs.Prelude.{◌≡◌, ℕ, Option, unwrap_or, Result, List, OnErr, IfOk, true}
 use Rattle.std.specs.declared.alloc.AllocError.{AllocError}
 use Rattle.lab_core.specs.Labs.{LabState, RepresentsBoard}
 use Rattle.dap_messages.specs.declared.message.Message.{Message}
 use Rattle.dap_session.specs.declared.settings.SessionSettings.{SessionSettings}
+use Rattle.dap_points.specs.Points.{WantedBreakpointsState}
+use Rattle.dap_slice.specs.declared.conditions.ConditionalBreakpoint.{ConditionalBreakpoint}
+use Rattle.dap_launch.specs.declared.program.Program.{Program}
 use Rattle.dap_launch.specs.declared.reply.Reply.{Reply}
-use Rattle.dap_session.specs.States.{SessionState, wants_slice}
+use Rattle.dap_launch.specs.Programs.{ProgramLists}
+use Rattle.dap_session.specs.Breakpoints.{armed_where, conditional_where}
+use Rattle.dap_session.specs.States.{SessionState, with_board, wants_slice}
 use Rattle.dap_session.specs.Turns.{Replied}
 use Rattle.dap_session.specs.Slices.{Told, slicing, slice_end_in}
 use Rattle.dap_session.specs.declared.session.RunSlice.{RunSlice}
@@ -57,3 +62,23 @@ WantsSlice v = (s : SessionState) → RepresentsSession v s → wants_slice s �
 pub record SlicesWithin (n : ℕ) (s : SessionState) (slice : RunSlice) (new : SessionFields) : Type 0 where
   pub executed : slice.executed ≡ (slice_end_in n s).0
   pub told : Tells (slicing (slice_end_in n s) s) slice.messages new
+
+-- ---- breakpoints
+
+-- These are the breakpoints with options, and those that aren't on lines, of the program with what is wanted
+-- of it; `None` means that they stay what they were.
+abbrev pub FindsWanted : (WantedBreakpointsState → Program → ProgramLists) → SessionFields
+    → Result (Option (List ConditionalBreakpoint)) AllocError → Type 0
+FindsWanted wanted old result = (s : SessionState) → RepresentsSession old s → IfOk result (λ points.
+    unwrap_or points s.settings.conditional
+    ≡ conditional_where s.settings.program (wanted s.settings.points) s)
+
+-- the same of the program that is found, whose board stops there
+abbrev pub ArmsWanted : (Option Program → Option Program) → (WantedBreakpointsState → Program → ProgramLists)
+    → SessionFields → Result (Option (List ConditionalBreakpoint)) AllocError → SessionFields
+    → Type 0
+ArmsWanted find wanted old result new = (s : SessionState) → RepresentsSession old s → IfOk result (λ points.
+    (unwrap_or points s.settings.conditional
+    ≡ conditional_where (find s.settings.program) (wanted s.settings.points) s)
+    × RepresentsSession new
+    (with_board (armed_where (find s.settings.program) (wanted s.settings.points) s.board) s))

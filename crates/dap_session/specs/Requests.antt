@@ -32,7 +32,7 @@ use Rattle.dap_session.specs.States.{SessionState, no_events, with_board, with_f
 use Rattle.dap_session.specs.States.{program_over}
 use Rattle.dap_session.specs.Turns.{Turn, Replied, turn_of, change_follow, refusing, succeeding, accepting}
 use Rattle.dap_session.specs.Breakpoints.{setting_lines, setting_functions, setting_data, describing_data}
-use Rattle.dap_session.specs.Breakpoints.{locating}
+use Rattle.dap_session.specs.Breakpoints.{setting_instructions, locating}
 use Rattle.dap_session.specs.Evaluations.{evaluating}
 use Rattle.dap_session.specs.Memory.{memory_at, writing, first_line, code_at}
 use Rattle.dap_session.specs.Targets.{finding_target, going_to}
@@ -160,6 +160,7 @@ editing_points (editor.SetBreakpoints path lines) s = setting_lines path lines s
 editing_points (editor.SetFunctionBreakpoints functions) s = setting_functions functions s
 editing_points (editor.DataBreakpointInfo query) s = describing_data query s
 editing_points (editor.SetDataBreakpoints breakpoints) s = setting_data breakpoints s
+editing_points (editor.SetInstructionBreakpoints breakpoints) s = setting_instructions breakpoints s
 editing_points (editor.BreakpointLocations path first last) s = locating path first last s
 editing_points other s = editing_memory other s
 
@@ -179,10 +180,16 @@ replying (asked.Faulty f) s = refusing (request_refusal f) s
 
 -- ---- objections
 
+-- of the arguments that were read only how many instructions it is to a disassembly can be out of bounds
+abbrev pub bound_refusal : RequestContent → Text
+bound_refusal (asked.Editor (editor.Disassemble address offset instruction_offset count)) =
+    codes "bad arguments: instructionOffset"
+bound_refusal other = codes "bad arguments"
+
 abbrev pub objection : RequestContent → SessionState → Option Text
 objection a s =
     if not (s.settings.is_initialized || opens a) then Some (codes "not initialized") else
-    if not (is_bounded a) then Some (codes "bad arguments") else None
+    if not (is_bounded a) then Some (bound_refusal a) else None
 
 -- ---- a request
 

@@ -12,6 +12,7 @@ ghost use Rattle.dap_session.specs.Represents.{RepresentsSession, RepliesAs, Tel
 mod breakpoints;
 mod evaluations;
 mod history;
+mod instructions;
 mod launches;
 mod memory;
 mod on_data;

@@ -8,16 +8,7 @@ const RUN: &str = r#"
 continue
   0 "continue" false "not initialized"
 initialize
-  1 "initialize" true {"exceptionBreakpointFilters":[{"default":true,"filter":"undefined",
-    "label":"Undefined opcodes"},{"default":false,"filter":"halt","label":"HLT"}],
-    "supportsBreakpointLocationsRequest":true,"supportsConditionalBreakpoints":true,
-    "supportsConfigurationDoneRequest":true,"supportsDataBreakpointBytes":true,
-    "supportsDataBreakpoints":true,"supportsDisassembleRequest":true,
-    "supportsEvaluateForHovers":true,"supportsExceptionInfoRequest":true,
-    "supportsFunctionBreakpoints":true,"supportsGotoTargetsRequest":true,
-    "supportsLoadedSourcesRequest":true,"supportsLogPoints":true,"supportsReadMemoryRequest":true,
-    "supportsRestartRequest":true,"supportsSetVariable":true,"supportsStepBack":true,
-    "supportsSteppingGranularity":true,"supportsTerminateRequest":true,"supportsWriteMemoryRequest":true}
+  1 "initialize" true CAPABILITIES
 initialize
   2 "initialize" false "initialized already"
 setBreakpoints {"source":{"path":"count.asm"},"breakpoints":[{"line":6},{"line":99}]}
@@ -56,16 +47,7 @@ loadedSources
 /// Steps, evaluations and memory, from a stop at the entry to HLT.
 const STEPS: &str = r#"
 initialize
-  0 "initialize" true {"exceptionBreakpointFilters":[{"default":true,"filter":"undefined",
-    "label":"Undefined opcodes"},{"default":false,"filter":"halt","label":"HLT"}],
-    "supportsBreakpointLocationsRequest":true,"supportsConditionalBreakpoints":true,
-    "supportsConfigurationDoneRequest":true,"supportsDataBreakpointBytes":true,
-    "supportsDataBreakpoints":true,"supportsDisassembleRequest":true,
-    "supportsEvaluateForHovers":true,"supportsExceptionInfoRequest":true,
-    "supportsFunctionBreakpoints":true,"supportsGotoTargetsRequest":true,
-    "supportsLoadedSourcesRequest":true,"supportsLogPoints":true,"supportsReadMemoryRequest":true,
-    "supportsRestartRequest":true,"supportsSetVariable":true,"supportsStepBack":true,
-    "supportsSteppingGranularity":true,"supportsTerminateRequest":true,"supportsWriteMemoryRequest":true}
+  0 "initialize" true CAPABILITIES
 configurationDone
   1 "configurationDone" true {}
 launch {"program":"count.asm","stopOnEntry":true} < calls
@@ -115,19 +97,10 @@ continue
 /// Programs that can't be loaded, a pause, restarts, and the ends of a program.
 const ENDS: &str = r#"
 initialize
-  0 "initialize" true {"exceptionBreakpointFilters":[{"default":true,"filter":"undefined",
-    "label":"Undefined opcodes"},{"default":false,"filter":"halt","label":"HLT"}],
-    "supportsBreakpointLocationsRequest":true,"supportsConditionalBreakpoints":true,
-    "supportsConfigurationDoneRequest":true,"supportsDataBreakpointBytes":true,
-    "supportsDataBreakpoints":true,"supportsDisassembleRequest":true,
-    "supportsEvaluateForHovers":true,"supportsExceptionInfoRequest":true,
-    "supportsFunctionBreakpoints":true,"supportsGotoTargetsRequest":true,
-    "supportsLoadedSourcesRequest":true,"supportsLogPoints":true,"supportsReadMemoryRequest":true,
-    "supportsRestartRequest":true,"supportsSetVariable":true,"supportsStepBack":true,
-    "supportsSteppingGranularity":true,"supportsTerminateRequest":true,"supportsWriteMemoryRequest":true}
+  0 "initialize" true CAPABILITIES
 launch {"program":"count.asm"} < slip
-  1 "launch" false "2:12 Undefined"
-  "output" {"category":"stderr","column":12,"line":2,"output":"2:12 Undefined\n",
+  1 "launch" false "2:12 Undefined: NOWHERE"
+  "output" {"category":"stderr","column":12,"line":2,"output":"2:12 Undefined: NOWHERE\n",
     "source":{"name":"count.asm","path":"count.asm"}}
 launch {"program":"count.asm"} < end
   2 "launch" false "the program has no start: END names none"
@@ -143,8 +116,8 @@ pause
 pause
   7 "pause" false "no program runs"
 restart < slip
-  8 "restart" false "2:12 Undefined"
-  "output" {"category":"stderr","column":12,"line":2,"output":"2:12 Undefined\n",
+  8 "restart" false "2:12 Undefined: NOWHERE"
+  "output" {"category":"stderr","column":12,"line":2,"output":"2:12 Undefined: NOWHERE\n",
     "source":{"name":"count.asm","path":"count.asm"}}
 restart < letters
   9 "restart" true {}
@@ -170,18 +143,9 @@ disconnect
 /// Runs that are held at their ends, and how they end then.
 const HELD: &str = r#"
 initialize
-  0 "initialize" true {"exceptionBreakpointFilters":[{"default":true,"filter":"undefined",
-    "label":"Undefined opcodes"},{"default":false,"filter":"halt","label":"HLT"}],
-    "supportsBreakpointLocationsRequest":true,"supportsConditionalBreakpoints":true,
-    "supportsConfigurationDoneRequest":true,"supportsDataBreakpointBytes":true,
-    "supportsDataBreakpoints":true,"supportsDisassembleRequest":true,
-    "supportsEvaluateForHovers":true,"supportsExceptionInfoRequest":true,
-    "supportsFunctionBreakpoints":true,"supportsGotoTargetsRequest":true,
-    "supportsLoadedSourcesRequest":true,"supportsLogPoints":true,"supportsReadMemoryRequest":true,
-    "supportsRestartRequest":true,"supportsSetVariable":true,"supportsStepBack":true,
-    "supportsSteppingGranularity":true,"supportsTerminateRequest":true,"supportsWriteMemoryRequest":true}
+  0 "initialize" true CAPABILITIES
 launch {"program":"count.asm","stopAtEnd":1} < undefined
-  1 "launch" false "bad arguments"
+  1 "launch" false "bad arguments: stopAtEnd"
 exceptionInfo {"threadId":1}
   2 "exceptionInfo" false "the program is stopped at no exception"
 launch {"program":"count.asm","stopAtEnd":true,"stopOnEntry":true} < undefined
@@ -242,16 +206,7 @@ next {"threadId":1}
 /// A run at its end is terminated, and without debugging none is held there.
 const UNHELD: &str = r#"
 initialize
-  0 "initialize" true {"exceptionBreakpointFilters":[{"default":true,"filter":"undefined",
-    "label":"Undefined opcodes"},{"default":false,"filter":"halt","label":"HLT"}],
-    "supportsBreakpointLocationsRequest":true,"supportsConditionalBreakpoints":true,
-    "supportsConfigurationDoneRequest":true,"supportsDataBreakpointBytes":true,
-    "supportsDataBreakpoints":true,"supportsDisassembleRequest":true,
-    "supportsEvaluateForHovers":true,"supportsExceptionInfoRequest":true,
-    "supportsFunctionBreakpoints":true,"supportsGotoTargetsRequest":true,
-    "supportsLoadedSourcesRequest":true,"supportsLogPoints":true,"supportsReadMemoryRequest":true,
-    "supportsRestartRequest":true,"supportsSetVariable":true,"supportsStepBack":true,
-    "supportsSteppingGranularity":true,"supportsTerminateRequest":true,"supportsWriteMemoryRequest":true}
+  0 "initialize" true CAPABILITIES
 launch {"program":"count.asm","stopAtEnd":true,"noDebug":true} < undefined
   1 "launch" true {}
   "initialized"
@@ -269,16 +224,7 @@ continue
 /// Changes by hand, for an editor that understands what is told of them.
 const CHANGES: &str = r#"
 initialize {"supportsInvalidatedEvent":true,"supportsMemoryEvent":true}
-  0 "initialize" true {"exceptionBreakpointFilters":[{"default":true,"filter":"undefined",
-    "label":"Undefined opcodes"},{"default":false,"filter":"halt","label":"HLT"}],
-    "supportsBreakpointLocationsRequest":true,"supportsConditionalBreakpoints":true,
-    "supportsConfigurationDoneRequest":true,"supportsDataBreakpointBytes":true,
-    "supportsDataBreakpoints":true,"supportsDisassembleRequest":true,
-    "supportsEvaluateForHovers":true,"supportsExceptionInfoRequest":true,
-    "supportsFunctionBreakpoints":true,"supportsGotoTargetsRequest":true,
-    "supportsLoadedSourcesRequest":true,"supportsLogPoints":true,"supportsReadMemoryRequest":true,
-    "supportsRestartRequest":true,"supportsSetVariable":true,"supportsStepBack":true,
-    "supportsSteppingGranularity":true,"supportsTerminateRequest":true,"supportsWriteMemoryRequest":true}
+  0 "initialize" true CAPABILITIES
 evaluate {"expression":"switches 4","context":"repl"}
   1 "evaluate" true {"result":"ok","variablesReference":0}
 launch {"program":"count.asm","stopOnEntry":true} < loop
@@ -327,20 +273,11 @@ evaluate {"expression":"switches 6","context":"repl"}
 /// Changes by hand, for an editor that understands only that memory has changed.
 const MEMORY: &str = r#"
 initialize {"supportsMemoryEvent":"yes"}
-  0 "initialize" false "bad arguments"
+  0 "initialize" false "bad arguments: supportsMemoryEvent"
 continue
   1 "continue" false "not initialized"
 initialize {"supportsInvalidatedEvent":false,"supportsMemoryEvent":true}
-  2 "initialize" true {"exceptionBreakpointFilters":[{"default":true,"filter":"undefined",
-    "label":"Undefined opcodes"},{"default":false,"filter":"halt","label":"HLT"}],
-    "supportsBreakpointLocationsRequest":true,"supportsConditionalBreakpoints":true,
-    "supportsConfigurationDoneRequest":true,"supportsDataBreakpointBytes":true,
-    "supportsDataBreakpoints":true,"supportsDisassembleRequest":true,
-    "supportsEvaluateForHovers":true,"supportsExceptionInfoRequest":true,
-    "supportsFunctionBreakpoints":true,"supportsGotoTargetsRequest":true,
-    "supportsLoadedSourcesRequest":true,"supportsLogPoints":true,"supportsReadMemoryRequest":true,
-    "supportsRestartRequest":true,"supportsSetVariable":true,"supportsStepBack":true,
-    "supportsSteppingGranularity":true,"supportsTerminateRequest":true,"supportsWriteMemoryRequest":true}
+  2 "initialize" true CAPABILITIES
 initialize {"supportsInvalidatedEvent":true}
   3 "initialize" false "initialized already"
 launch {"program":"count.asm","stopOnEntry":true} < loop

@@ -6,16 +6,7 @@ use std::test::Fail;
 /// Breakpoints of a program, and what becomes of them when it is loaded anew.
 const POINTS: &str = r#"
 initialize
-  0 "initialize" true {"exceptionBreakpointFilters":[{"default":true,"filter":"undefined",
-    "label":"Undefined opcodes"},{"default":false,"filter":"halt","label":"HLT"}],
-    "supportsBreakpointLocationsRequest":true,"supportsConditionalBreakpoints":true,
-    "supportsConfigurationDoneRequest":true,"supportsDataBreakpointBytes":true,
-    "supportsDataBreakpoints":true,"supportsDisassembleRequest":true,
-    "supportsEvaluateForHovers":true,"supportsExceptionInfoRequest":true,
-    "supportsFunctionBreakpoints":true,"supportsGotoTargetsRequest":true,
-    "supportsLoadedSourcesRequest":true,"supportsLogPoints":true,"supportsReadMemoryRequest":true,
-    "supportsRestartRequest":true,"supportsSetVariable":true,"supportsStepBack":true,
-    "supportsSteppingGranularity":true,"supportsTerminateRequest":true,"supportsWriteMemoryRequest":true}
+  0 "initialize" true CAPABILITIES
 launch {"program":"count.asm"} < letters
   1 "launch" true {}
   "initialized"
@@ -62,16 +53,7 @@ slice
 /// false.
 const CONDITIONS: &str = r#"
 initialize
-  0 "initialize" true {"exceptionBreakpointFilters":[{"default":true,"filter":"undefined",
-    "label":"Undefined opcodes"},{"default":false,"filter":"halt","label":"HLT"}],
-    "supportsBreakpointLocationsRequest":true,"supportsConditionalBreakpoints":true,
-    "supportsConfigurationDoneRequest":true,"supportsDataBreakpointBytes":true,
-    "supportsDataBreakpoints":true,"supportsDisassembleRequest":true,
-    "supportsEvaluateForHovers":true,"supportsExceptionInfoRequest":true,
-    "supportsFunctionBreakpoints":true,"supportsGotoTargetsRequest":true,
-    "supportsLoadedSourcesRequest":true,"supportsLogPoints":true,"supportsReadMemoryRequest":true,
-    "supportsRestartRequest":true,"supportsSetVariable":true,"supportsStepBack":true,
-    "supportsSteppingGranularity":true,"supportsTerminateRequest":true,"supportsWriteMemoryRequest":true}
+  0 "initialize" true CAPABILITIES
 launch {"program":"count.asm","stopOnEntry":true} < counts
   1 "launch" true {}
   "initialized"
@@ -140,16 +122,7 @@ slice
 /// that `next` steps over, and beside a breakpoint that stops.
 const LOGS: &str = r#"
 initialize
-  0 "initialize" true {"exceptionBreakpointFilters":[{"default":true,"filter":"undefined",
-    "label":"Undefined opcodes"},{"default":false,"filter":"halt","label":"HLT"}],
-    "supportsBreakpointLocationsRequest":true,"supportsConditionalBreakpoints":true,
-    "supportsConfigurationDoneRequest":true,"supportsDataBreakpointBytes":true,
-    "supportsDataBreakpoints":true,"supportsDisassembleRequest":true,
-    "supportsEvaluateForHovers":true,"supportsExceptionInfoRequest":true,
-    "supportsFunctionBreakpoints":true,"supportsGotoTargetsRequest":true,
-    "supportsLoadedSourcesRequest":true,"supportsLogPoints":true,"supportsReadMemoryRequest":true,
-    "supportsRestartRequest":true,"supportsSetVariable":true,"supportsStepBack":true,
-    "supportsSteppingGranularity":true,"supportsTerminateRequest":true,"supportsWriteMemoryRequest":true}
+  0 "initialize" true CAPABILITIES
 launch {"program":"count.asm"} < counts
   1 "launch" true {}
   "initialized"
@@ -231,16 +204,7 @@ slice
 /// whose end is a change.
 const DATA: &str = r#"
 initialize
-  0 "initialize" true {"exceptionBreakpointFilters":[{"default":true,"filter":"undefined",
-    "label":"Undefined opcodes"},{"default":false,"filter":"halt","label":"HLT"}],
-    "supportsBreakpointLocationsRequest":true,"supportsConditionalBreakpoints":true,
-    "supportsConfigurationDoneRequest":true,"supportsDataBreakpointBytes":true,
-    "supportsDataBreakpoints":true,"supportsDisassembleRequest":true,
-    "supportsEvaluateForHovers":true,"supportsExceptionInfoRequest":true,
-    "supportsFunctionBreakpoints":true,"supportsGotoTargetsRequest":true,
-    "supportsLoadedSourcesRequest":true,"supportsLogPoints":true,"supportsReadMemoryRequest":true,
-    "supportsRestartRequest":true,"supportsSetVariable":true,"supportsStepBack":true,
-    "supportsSteppingGranularity":true,"supportsTerminateRequest":true,"supportsWriteMemoryRequest":true}
+  0 "initialize" true CAPABILITIES
 setDataBreakpoints {"breakpoints":[{"dataId":"B"}]}
   1 "setDataBreakpoints" true {"breakpoints":[
     {"id":262401,"message":"nothing is launched yet","verified":false}]}
@@ -319,6 +283,56 @@ slice
   "terminated"
 "#;
 
+/// Breakpoints at instructions: before a launch, those that can't be, and one with a condition.
+const INSTRUCTIONS: &str = r#"
+initialize
+  0 "initialize" true CAPABILITIES
+setInstructionBreakpoints {"breakpoints":[{"instructionReference":"0x0108"}]}
+  1 "setInstructionBreakpoints" true {"breakpoints":[
+    {"id":262657,"message":"nothing is launched yet","verified":false}]}
+launch {"program":"count.asm","stopOnEntry":true} < counts
+  2 "launch" true {}
+  "initialized"
+  "breakpoint" {"breakpoint":{"id":262657,"instructionReference":"0x0108","verified":true},
+    "reason":"changed"}
+configurationDone
+  3 "configurationDone" true {}
+  "stopped" {"allThreadsStopped":true,"reason":"entry","threadId":1}
+continue {"threadId":1}
+  4 "continue" true {"allThreadsContinued":true}
+  "continued" {"allThreadsContinued":true,"threadId":1}
+slice
+  "output" {"category":"stdout","output":"."}
+  "stopped" {"allThreadsStopped":true,"reason":"breakpoint","threadId":1}
+setInstructionBreakpoints {"breakpoints":[
+    {"instructionReference":"0x0100","offset":8,"condition":"B LT 2"},
+    {"instructionReference":"0x0000","offset":-1},
+    {"instructionReference":"SAY"},
+    {"instructionReference":"0x0109","hitCondition":"2"},
+    {"instructionReference":"0x0109","condition":"A EQ EQ"}]}
+  6 "setInstructionBreakpoints" true {"breakpoints":[
+    {"id":262657,"instructionReference":"0x0108","verified":true},
+    {"id":262658,"message":"there is no such address","verified":false},
+    {"id":262659,"message":"there is no such address","verified":false},
+    {"id":262660,"message":"hit counts are not supported","verified":false},
+    {"id":262661,"message":"condition, column 6: Name","verified":false}]}
+continue {"threadId":1}
+  7 "continue" true {"allThreadsContinued":true}
+  "continued" {"allThreadsContinued":true,"threadId":1}
+slice
+  "output" {"category":"stdout","output":"."}
+slice
+  "output" {"category":"stdout","output":"."}
+  "stopped" {"allThreadsStopped":true,"reason":"breakpoint","threadId":1}
+evaluate {"expression":"B","context":"watch"}
+  10 "evaluate" true {"result":"001H","variablesReference":0}
+restart < counts
+  11 "restart" true {}
+  "stopped" {"allThreadsStopped":true,"reason":"entry","threadId":1}
+setInstructionBreakpoints {"breakpoints":[]}
+  12 "setInstructionBreakpoints" true {"breakpoints":[]}
+"#;
+
 #[test]
 fn breakpoints_are_placed(rt: HostRuntime) -> Result<(), Fail> {
     assert_eq!(rt; first_other(rt.alloc(), POINTS)?, None);
@@ -340,5 +354,11 @@ fn log_messages_are_told(rt: HostRuntime) -> Result<(), Fail> {
 #[test]
 fn changes_stop_the_run(rt: HostRuntime) -> Result<(), Fail> {
     assert_eq!(rt; first_other(rt.alloc(), DATA)?, None);
+    Ok(())
+}
+
+#[test]
+fn instructions_stop_the_run(rt: HostRuntime) -> Result<(), Fail> {
+    assert_eq!(rt; first_other(rt.alloc(), INSTRUCTIONS)?, None);
     Ok(())
 }

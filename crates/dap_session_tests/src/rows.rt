@@ -1,6 +1,7 @@
 //! The rows of a play. A row begins with what is asked: `slice`, or a request's command and arguments, with
 //! the name of the program that is found behind ` < `. Each message that goes out for it stands in a line
-//! of its own, indented by two blanks; a line that is indented by four goes on in the one before it.
+//! of its own, indented by two blanks; a line that is indented by four goes on in the one before it. What
+//! the debugger supports is told in short, as `CAPABILITIES`.
 
 use base_text::sequence::Sequence;
 use base_text::text::Text;
@@ -86,6 +87,21 @@ SAY:   MVI A,2EH
        RET
        END MAIN
 ";
+
+/// The body of the response to `initialize`.
+const CAPABILITIES: &str = concat!(
+    r#"{"exceptionBreakpointFilters":[{"default":true,"filter":"undefined","#,
+    r#""label":"Undefined opcodes"},{"default":false,"filter":"halt","label":"HLT"}],"#,
+    r#""supportsBreakpointLocationsRequest":true,"supportsConditionalBreakpoints":true,"#,
+    r#""supportsConfigurationDoneRequest":true,"supportsDataBreakpointBytes":true,"#,
+    r#""supportsDataBreakpoints":true,"supportsDisassembleRequest":true,"#,
+    r#""supportsEvaluateForHovers":true,"supportsExceptionInfoRequest":true,"#,
+    r#""supportsFunctionBreakpoints":true,"supportsGotoTargetsRequest":true,"#,
+    r#""supportsInstructionBreakpoints":true,"supportsLoadedSourcesRequest":true,"#,
+    r#""supportsLogPoints":true,"supportsReadMemoryRequest":true,"supportsRestartRequest":true,"#,
+    r#""supportsSetVariable":true,"supportsStepBack":true,"supportsSteppingGranularity":true,"#,
+    r#""supportsTerminateRequest":true,"supportsWriteMemoryRequest":true}"#,
+);
 
 fn program(name: &str) -> Option<&'static str> {
     match name {
@@ -192,6 +208,16 @@ fn told(alloc: Global, session: &mut Session, seq: usize, asked: &str) -> Result
     Ok(told?)
 }
 
+fn push_told(rows: &mut String, message: &str) -> Result<(), AllocError> {
+    match message.strip_suffix("CAPABILITIES") {
+        None => rows.push_str(message),
+        Some(front) => {
+            rows.push_str(front)?;
+            rows.push_str(CAPABILITIES)
+        }
+    }
+}
+
 // The rows of a play, each in one line, with its messages behind ` -> `.
 fn rows_of(alloc: Global, play: &str) -> Result<String, AllocError> {
     let mut rows = String::new(alloc);
@@ -200,7 +226,7 @@ fn rows_of(alloc: Global, play: &str) -> Result<String, AllocError> {
             rows.push_str(rest)?;
         } else if let Some(message) = line.strip_prefix("  ") {
             rows.push_str(" -> ")?;
-            rows.push_str(message)?;
+            push_told(&mut rows, message)?;
         } else {
             rows.push_str("\n")?;
             rows.push_str(line)?;

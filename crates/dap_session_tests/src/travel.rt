@@ -5,16 +5,7 @@ use std::test::Fail;
 /// Runs that are held at the ends that filters name, and go on from another line.
 const FILTERS: &str = r#"
 initialize
-  0 "initialize" true {"exceptionBreakpointFilters":[{"default":true,"filter":"undefined",
-    "label":"Undefined opcodes"},{"default":false,"filter":"halt","label":"HLT"}],
-    "supportsBreakpointLocationsRequest":true,"supportsConditionalBreakpoints":true,
-    "supportsConfigurationDoneRequest":true,"supportsDataBreakpointBytes":true,
-    "supportsDataBreakpoints":true,"supportsDisassembleRequest":true,
-    "supportsEvaluateForHovers":true,"supportsExceptionInfoRequest":true,
-    "supportsFunctionBreakpoints":true,"supportsGotoTargetsRequest":true,
-    "supportsLoadedSourcesRequest":true,"supportsLogPoints":true,"supportsReadMemoryRequest":true,
-    "supportsRestartRequest":true,"supportsSetVariable":true,"supportsStepBack":true,
-    "supportsSteppingGranularity":true,"supportsTerminateRequest":true,"supportsWriteMemoryRequest":true}
+  0 "initialize" true CAPABILITIES
 launch {"program":"count.asm"} < undefined
   1 "launch" true {}
   "initialized"
@@ -60,16 +51,7 @@ next {"threadId":1}
 /// A run without debugging is held at no end, whatever the filters are.
 const UNFILTERED: &str = r#"
 initialize
-  0 "initialize" true {"exceptionBreakpointFilters":[{"default":true,"filter":"undefined",
-    "label":"Undefined opcodes"},{"default":false,"filter":"halt","label":"HLT"}],
-    "supportsBreakpointLocationsRequest":true,"supportsConditionalBreakpoints":true,
-    "supportsConfigurationDoneRequest":true,"supportsDataBreakpointBytes":true,
-    "supportsDataBreakpoints":true,"supportsDisassembleRequest":true,
-    "supportsEvaluateForHovers":true,"supportsExceptionInfoRequest":true,
-    "supportsFunctionBreakpoints":true,"supportsGotoTargetsRequest":true,
-    "supportsLoadedSourcesRequest":true,"supportsLogPoints":true,"supportsReadMemoryRequest":true,
-    "supportsRestartRequest":true,"supportsSetVariable":true,"supportsStepBack":true,
-    "supportsSteppingGranularity":true,"supportsTerminateRequest":true,"supportsWriteMemoryRequest":true}
+  0 "initialize" true CAPABILITIES
 setExceptionBreakpoints {"filters":["halt","undefined"]}
   1 "setExceptionBreakpoints" true {}
 launch {"program":"count.asm","noDebug":true} < letters
@@ -88,16 +70,7 @@ slice
 /// The lines at which PC can be set, and a run that goes on from one. Memory ends at FFFFH.
 const TARGETS: &str = r#"
 initialize
-  0 "initialize" true {"exceptionBreakpointFilters":[{"default":true,"filter":"undefined",
-    "label":"Undefined opcodes"},{"default":false,"filter":"halt","label":"HLT"}],
-    "supportsBreakpointLocationsRequest":true,"supportsConditionalBreakpoints":true,
-    "supportsConfigurationDoneRequest":true,"supportsDataBreakpointBytes":true,
-    "supportsDataBreakpoints":true,"supportsDisassembleRequest":true,
-    "supportsEvaluateForHovers":true,"supportsExceptionInfoRequest":true,
-    "supportsFunctionBreakpoints":true,"supportsGotoTargetsRequest":true,
-    "supportsLoadedSourcesRequest":true,"supportsLogPoints":true,"supportsReadMemoryRequest":true,
-    "supportsRestartRequest":true,"supportsSetVariable":true,"supportsStepBack":true,
-    "supportsSteppingGranularity":true,"supportsTerminateRequest":true,"supportsWriteMemoryRequest":true}
+  0 "initialize" true CAPABILITIES
 launch {"program":"count.asm","stopOnEntry":true} < letters
   1 "launch" true {}
   "initialized"
@@ -144,16 +117,7 @@ slice
 /// What a launch names is typed before the first step, and again at a restart.
 const INPUT: &str = r#"
 initialize
-  0 "initialize" true {"exceptionBreakpointFilters":[{"default":true,"filter":"undefined",
-    "label":"Undefined opcodes"},{"default":false,"filter":"halt","label":"HLT"}],
-    "supportsBreakpointLocationsRequest":true,"supportsConditionalBreakpoints":true,
-    "supportsConfigurationDoneRequest":true,"supportsDataBreakpointBytes":true,
-    "supportsDataBreakpoints":true,"supportsDisassembleRequest":true,
-    "supportsEvaluateForHovers":true,"supportsExceptionInfoRequest":true,
-    "supportsFunctionBreakpoints":true,"supportsGotoTargetsRequest":true,
-    "supportsLoadedSourcesRequest":true,"supportsLogPoints":true,"supportsReadMemoryRequest":true,
-    "supportsRestartRequest":true,"supportsSetVariable":true,"supportsStepBack":true,
-    "supportsSteppingGranularity":true,"supportsTerminateRequest":true,"supportsWriteMemoryRequest":true}
+  0 "initialize" true CAPABILITIES
 configurationDone
   1 "configurationDone" true {}
 launch {"program":"count.asm","input":"h\u00ef"} < echo

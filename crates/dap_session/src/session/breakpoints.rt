@@ -1,19 +1,18 @@
 //! Breakpoints.
 ghost use Rattle.std.specs.Prelude.{◌≡◌, ◌≤◌, length, true, IfOk, OnErr, option_map, unwrap_or};
-ghost use Rattle.dap_session.specs.Breakpoints.{program_at, lines_armed, labels_armed, locating};
-ghost use Rattle.dap_session.specs.Breakpoints.{lines_conditional, labels_conditional, lines_set};
-ghost use Rattle.dap_session.specs.Breakpoints.{setting_lines, setting_functions};
-ghost use Rattle.dap_session.specs.States.{SessionState, with_board, with_points, with_conditional};
+ghost use Rattle.dap_session.specs.Breakpoints.{program_at, lines_wanted, labels_wanted, lines_set};
+ghost use Rattle.dap_session.specs.Breakpoints.{setting_lines, setting_functions, locating};
+ghost use Rattle.dap_session.specs.States.{SessionState, with_points, with_conditional};
 ghost use Rattle.dap_points.specs.Points.{number_of, has_place, with_lines};
 ghost use Rattle.dap_launch.specs.Points.{points_where, labels_where};
-ghost use Rattle.dap_session.specs.Represents.{RepresentsSession, RepliesAs};
+ghost use Rattle.dap_session.specs.Represents.{RepresentsSession, RepliesAs, ArmsWanted};
 
 use crate::session::Session;
 use base_text::sequence::Sequence;
 use base_text::text::Text;
 use dap_editor::request::{FunctionBreakpoint, LineBreakpoint};
 use dap_launch::points::{copy_functions, copy_lines, labels_where, points_where};
-use dap_launch::program::{Program, ProgramBreakpoints, arm_with};
+use dap_launch::program::{Program, ProgramBreakpoints, arm_with, wanted_of};
 use dap_launch::reply::{Reply, succeed};
 use dap_lines::code_lines::locations;
 use dap_messages::message::{EditorBody, PlacedBreakpoint};
@@ -22,12 +21,12 @@ use dap_program::messages::FollowUp;
 use dap_slice::conditions::ConditionalBreakpoints;
 use std::alloc::{AllocError, Global};
 
-// The program, if it was launched with this path.
+// The program, if it is the file with this path.
 pub(super) fn program_at<'a>(path: &str, program: &'a Option<Program>) -> Option<&'a Program>
     ensures { option_map (λ p. p.now) result ≡ program_at path.now program.now }
 {
     match program {
-        Some(program) if program.launch.program.as_str() == path => Some(program),
+        Some(program) if program.launch.canonical.as_str() == path => Some(program),
         _ => None,
     }
 }
@@ -86,28 +85,23 @@ impl Session {
     }
 
     // Makes the board stop at these lines, if the program is this source, and returns those breakpoints that
-    // have options, and what is watched.
+    // have options, and those that aren't on lines.
     fn arm_lines(
         &mut self,
         alloc: Global,
         source: &SourceLines,
     ) -> Result<Option<ConditionalBreakpoints>, AllocError>
-        ensures ok { (s : SessionState) → RepresentsSession self.old s → IfOk result (λ points.
-            (unwrap_or points s.settings.conditional ≡ lines_conditional source.now s)
-            × RepresentsSession self.new (lines_armed source.now s)) }
+        ensures ok { ArmsWanted (program_at source.now.path) (lines_wanted source.now)
+            self.old result self.new }
         ensures rest { self.new ≡ record self.old { lab = self.new.lab } }
         ensures err { OnErr result (self.new ≡ self.old) }
     {
-        let path = source.path.as_str();
-        match program_at(path, &self.settings.program) {
+        match program_at(source.path.as_str(), &self.settings.program) {
             None => Ok(None),
             Some(program) => {
-                let kept = &self.settings.points;
                 let wanted = ProgramBreakpoints {
-                    number: kept.number_of(path),
                     lines: source.used(),
-                    functions: kept.functions(),
-                    on_data: kept.on_data(),
+                    ..wanted_of(&self.settings.points, program)
                 };
                 let points = arm_with(alloc, &mut self.lab, program, &wanted)?;
                 Ok(Some(points))
@@ -179,31 +173,24 @@ impl Session {
     }
 
     // Makes the program's board stop at these labels, and returns those breakpoints that have options, and
-    // what is watched.
+    // those that aren't on lines.
     fn arm_labels(
         &mut self,
         alloc: Global,
         functions: &[FunctionBreakpoint],
     ) -> Result<Option<ConditionalBreakpoints>, AllocError>
         requires { length functions.now ≤ 256 }
-        ensures ok { (s : SessionState) → RepresentsSession self.old s → IfOk result (λ points.
-            (unwrap_or points s.settings.conditional
-            ≡ labels_conditional s.settings.program functions.now s)
-            × RepresentsSession self.new (with_board
-            (labels_armed s.settings.program functions.now s.settings.points s.board) s)) }
+        ensures ok { ArmsWanted (λ program. program) (labels_wanted functions.now)
+            self.old result self.new }
         ensures rest { self.new ≡ record self.old { lab = self.new.lab } }
         ensures err { OnErr result (self.new ≡ self.old) }
     {
         match &self.settings.program {
             None => Ok(None),
             Some(program) => {
-                let path = program.launch.program.as_str();
-                let kept = &self.settings.points;
                 let wanted = ProgramBreakpoints {
-                    number: kept.number_of(path),
-                    lines: kept.lines_at(path),
                     functions,
-                    on_data: kept.on_data(),
+                    ..wanted_of(&self.settings.points, program)
                 };
                 let points = arm_with(alloc, &mut self.lab, program, &wanted)?;
                 Ok(Some(points))

@@ -110,7 +110,7 @@ impl Session {
                 self.install(alloc, opening, LoadedProgram { program, lab })
             }
             Err(LoadFault::OutOfMemory) => Err(AllocError),
-            Err(fault) => failure(alloc, opening.caller, &launch.program, fault),
+            Err(fault) => { failure(alloc, opening.caller, &launch.program, text.as_str(), fault) }
         }
     }
 

@@ -1,8 +1,8 @@
 //! Breakpoints on data.
-ghost use Rattle.std.specs.Prelude.{◌≡◌, ◌≤◌, length, IfOk, unwrap_or};
-ghost use Rattle.dap_session.specs.Breakpoints.{data_conditional, setting_data, describing_data};
+ghost use Rattle.std.specs.Prelude.{◌≡◌, ◌≤◌, length};
+ghost use Rattle.dap_session.specs.Breakpoints.{data_wanted, setting_data, describing_data};
 ghost use Rattle.dap_session.specs.States.{SessionState, with_points};
-ghost use Rattle.dap_session.specs.Represents.{RepresentsSession, RepliesAs};
+ghost use Rattle.dap_session.specs.Represents.{RepresentsSession, RepliesAs, FindsWanted};
 
 use crate::session::Session;
 use base_text::sequence::Sequence;
@@ -10,7 +10,7 @@ use dap_data::info::data_info;
 use dap_data::points::copy_data;
 use dap_editor::request::{DataBreakpoint, DataQuery};
 use dap_launch::points::data_where;
-use dap_launch::program::{ProgramBreakpoints, conditional_of};
+use dap_launch::program::{ProgramBreakpoints, conditional_for, wanted_of};
 use dap_launch::reply::{Reply, succeed};
 use dap_messages::message::EditorBody;
 use dap_program::messages::FollowUp;
@@ -55,28 +55,22 @@ impl Session {
         self.settings.points.set_data(on_data);
     }
 
-    // The program's breakpoints that have options, and what these watch.
+    // The program's breakpoints that have options, and those that aren't on lines, with these on data.
     fn watches_with(
         &self,
         alloc: Global,
         on_data: &[DataBreakpoint],
     ) -> Result<Option<ConditionalBreakpoints>, AllocError>
-        ensures { (s : SessionState) → RepresentsSession self.now s → IfOk result (λ points.
-            unwrap_or points s.settings.conditional
-            ≡ data_conditional s.settings.program on_data.now s) }
+        ensures { FindsWanted (data_wanted on_data.now) self.now result }
     {
         match &self.settings.program {
             None => Ok(None),
             Some(program) => {
-                let path = program.launch.program.as_str();
-                let kept = &self.settings.points;
                 let wanted = ProgramBreakpoints {
-                    number: kept.number_of(path),
-                    lines: kept.lines_at(path),
-                    functions: kept.functions(),
                     on_data,
+                    ..wanted_of(&self.settings.points, program)
                 };
-                let points = conditional_of(alloc, &self.lab, program, &wanted)?;
+                let points = conditional_for(alloc, &self.lab, program, &wanted)?;
                 Ok(Some(points))
             }
         }

@@ -6,8 +6,8 @@ ghost use Rattle.dap_program.specs.Boards.{after};
 ghost use Rattle.dap_program.specs.Bounds.{is_command_bounded, is_bounded};
 ghost use Rattle.dap_session.specs.States.{SessionState, with_board, program_over};
 ghost use Rattle.dap_session.specs.Turns.{change_follow};
-ghost use Rattle.dap_session.specs.Requests.{objection, follow_of, performing, resuming, finish_done};
-ghost use Rattle.dap_session.specs.Requests.{resetting};
+ghost use Rattle.dap_session.specs.Requests.{bound_refusal, objection, follow_of, performing, resuming};
+ghost use Rattle.dap_session.specs.Requests.{finish_done, resetting};
 ghost use Rattle.dap_session.specs.Requests.{terminating, initializing, configuring, disconnecting};
 ghost use Rattle.dap_session.specs.Requests.{commanding, editing_points, editing, replying, end_follow};
 ghost use Rattle.dap_session.specs.Represents.{RepresentsSession, RepliesAs, Replies};
@@ -44,6 +44,18 @@ pub(super) fn refuse_for(alloc: Global, fault: EventFault) -> Result<Reply, Allo
     Ok(reply)
 }
 
+// Why a request is refused that isn't bounded.
+fn bound_refusal(asked: &RequestContent) -> &'static str
+    ensures { result.now ≡ bound_refusal asked.now }
+{
+    match asked {
+        RequestContent::Editor(EditorCommand::Disassemble { .. }) => {
+            "bad arguments: instructionOffset"
+        }
+        _ => "bad arguments",
+    }
+}
+
 impl Session {
     // What there is to object to a request, whatever it asks for.
     pub(super) fn objection(&self, asked: &RequestContent) -> Option<&'static str>
@@ -55,7 +67,7 @@ impl Session {
             return Some("not initialized");
         }
         if !is_bounded(asked) {
-            return Some("bad arguments");
+            return Some(bound_refusal(asked));
         }
         None
     }
@@ -71,7 +83,10 @@ impl Session {
         match asked {
             RequestContent::Board(command) => self.command(alloc, command),
             RequestContent::Editor(command) => self.edit(alloc, command),
-            RequestContent::Faulty(fault) => self.refuse_with(alloc, request_refusal(*fault)),
+            RequestContent::Faulty(fault) => {
+                let text = request_refusal(alloc, fault)?;
+                self.refuse_with(alloc, text.as_str())
+            }
         }
     }
 
@@ -220,6 +235,9 @@ impl Session {
             }
             EditorCommand::DataBreakpointInfo(query) => self.describe_data(alloc, query),
             EditorCommand::SetDataBreakpoints(on_data) => self.set_data(alloc, on_data),
+            EditorCommand::SetInstructionBreakpoints(instructions) => {
+                self.set_instructions(alloc, instructions)
+            }
             EditorCommand::BreakpointLocations { path, first, last } => {
                 self.locate(alloc, path, *first, *last)
             }

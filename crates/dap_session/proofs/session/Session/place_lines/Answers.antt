@@ -4,8 +4,8 @@ use Rattle.dap_messages.specs.declared.message.EditorOutcome.TheVariants.{Succes
 use Rattle.dap_messages.specs.declared.message.PlacedBreakpoint.{PlacedBreakpoint}
 use Rattle.dap_launch.specs.declared.reply.Reply.{Reply}
 use Rattle.dap_points.specs.Points.{with_lines}
-use Rattle.dap_session.specs.States.{with_points, with_conditional}
-use Rattle.dap_session.specs.Breakpoints.{lines_armed}
+use Rattle.dap_session.specs.States.{with_board, with_points, with_conditional}
+use Rattle.dap_session.specs.Breakpoints.{program_at, armed_where, lines_wanted}
 use Rattle.dap_session.specs.Represents.{RepresentsSession}
 use Rattle.dap_session.proofs.session.Session.place_lines.Goals as goal
 
@@ -20,9 +20,11 @@ returns c = (
     represents =
         let armed = c.in_ok-conditional.ensures.ok s represents in
         let l = c.args.source in
+        let program = program_at l.path s.settings.program in
+        let board = armed_where program (lines_wanted l s.settings.points) s.board in
         subst (λ points. RepresentsSession c.keep_conditional.new.self
         (with_points (with_lines l.path l.lines s.settings.points)
-        (with_conditional points (lines_armed l s)))) armed.0
+        (with_conditional points (with_board board s)))) armed.0
         (c.keep_conditional.ensures _ (c.keep_lines.ensures _ armed.1));
   },
   search rules,

@@ -6,7 +6,7 @@ use Rattle.dap_messages.specs.declared.message.PlacedBreakpoint.{PlacedBreakpoin
 use Rattle.dap_editor.specs.declared.request.FunctionBreakpoint.{FunctionBreakpoint}
 use Rattle.dap_launch.specs.declared.reply.Reply.{Reply}
 use Rattle.dap_session.specs.States.{with_board, with_points, with_conditional}
-use Rattle.dap_session.specs.Breakpoints.{labels_armed, labels_conditional, setting_functions}
+use Rattle.dap_session.specs.Breakpoints.{armed_where, conditional_where, labels_wanted, setting_functions}
 use Rattle.dap_session.specs.Represents.{RepresentsSession, Replies}
 use Rattle.dap_session.proofs.session.Session.set_functions.Goals as goal
 
@@ -19,8 +19,8 @@ returns c = (
       let program = s.settings.program in
       let R : List FunctionBreakpoint → List ConditionalBreakpoint → Type 0 =
       λ fs points. RepresentsSession c.keep_conditional.new.self
-      (with_board (labels_armed program labels p s.board)
-      (with_points (record p { functions = fs }) (with_conditional points s))) in
+      (with_points (record p { functions = fs })
+      (with_conditional points (with_board (armed_where program (labels_wanted labels p) s.board) s))) in
       let T : List FunctionBreakpoint → Type 0 =
       λ fs. Replies (setting_functions fs s) c.succeed.result c.keep_conditional.new.self in
       let told : T labels = record {
@@ -30,7 +30,7 @@ returns c = (
             (c.in_ok-points.ensures s represents);
         follow = ap (λ (r : Reply). r.follow) c.succeed.ensures;
         represents =
-            subst (λ fs. R fs (labels_conditional program labels s)) c.in_ok-kept.ensures
+            subst (λ fs. R fs (conditional_where program (labels_wanted labels p) s)) c.in_ok-kept.ensures
             (subst (R c.in_ok-kept.kept) armed.0
             (c.keep_conditional.ensures _ (c.keep_functions.ensures _ armed.1)));
       } in

@@ -1,19 +1,18 @@
-use Rattle.std.proofs.Common.{◌≡◌, ◌∙◌, ap, subst, sym}
-use Rattle.dap_points.specs.Points.{number_of, lines_at}
+use Rattle.std.proofs.Common.{◌≡◌, ap, subst, sym}
+use Rattle.dap_launch.specs.Programs.{ProgramLists, lists_in}
+use Rattle.dap_session.specs.Breakpoints.{data_wanted}
 use Rattle.dap_session.specs.Represents.{SessionFields, RepresentsSession}
-use Rattle.dap_session.proofs.ArmLemmas.{watches_found}
+use Rattle.dap_session.proofs.ArmLemmas.{wanted_found}
 use Rattle.dap_session.proofs.session.Session.watches_with.Goals as goal
 
 pub returns-in_ok-points-in-Some : goal.returns-in_ok-points-in-Some
 returns-in_ok-points-in-Some c = λ s represents.
-    let lists = c.self.inside.settings.points.lists in
-    let path = c.in-Some.program.launch.program in
+    let on_data = c.args.on_data.now in
+    let program = c.in-Some.program in
     let Q : SessionFields → Type 0 = λ v. RepresentsSession v s in
-    let number : c.number_of.result ≡ number_of path lists =
-    c.number_of.ensures.number ∙ ap (λ p. number_of p lists) c.as_str-path.ensures in
-    let lines : c.lines_at.result.now ≡ lines_at path lists =
-    c.lines_at.ensures.lines ∙ ap (λ p. lines_at p lists) c.as_str-path.ensures in
     let viewed = subst Q (sym c.self.view_is) represents in
-    watches_found c.in_ok-points-in-Some.points _ c.in-Some.program c.number_of.result c.lines_at.result.now
-    c.functions.result.now c.args.on_data.now s viewed c.in-Some.is number lines c.functions.ensures.labels
+    let lists : ProgramLists = record (lists_in c.wanted_of.result) { on_data = on_data } in
+    let are : lists ≡ data_wanted on_data c.self.inside.settings.points program =
+    ap (λ (w : ProgramLists). record w { on_data = on_data }) c.wanted_of.ensures.lists in
+    wanted_found (data_wanted on_data) c.in_ok-points-in-Some.points _ program lists s viewed c.in-Some.is are
     (c.in_ok-points-in-Some.ensures s.board viewed.board)

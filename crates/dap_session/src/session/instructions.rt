@@ -1,0 +1,67 @@
+//! Breakpoints at instructions.
+ghost use Rattle.std.specs.Prelude.{◌≡◌, ◌≤◌, length};
+ghost use Rattle.dap_session.specs.Breakpoints.{instructions_wanted, setting_instructions};
+ghost use Rattle.dap_session.specs.States.{SessionState, with_points};
+ghost use Rattle.dap_session.specs.Represents.{RepresentsSession, RepliesAs, FindsWanted};
+
+use crate::session::Session;
+use base_text::sequence::Sequence;
+use dap_data::instructions::copy_instructions;
+use dap_editor::request::InstructionBreakpoint;
+use dap_launch::points::instructions_where;
+use dap_launch::program::{ProgramBreakpoints, conditional_for, wanted_of};
+use dap_launch::reply::{Reply, succeed};
+use dap_messages::message::EditorBody;
+use dap_program::messages::FollowUp;
+use dap_slice::conditions::ConditionalBreakpoints;
+use std::alloc::{AllocError, Global};
+
+impl Session {
+    // Sets the breakpoints at instructions.
+    pub(super) fn set_instructions(
+        &mut self,
+        alloc: Global,
+        instructions: &Sequence<InstructionBreakpoint>,
+    ) -> Result<Reply, AllocError>
+        requires { length instructions.now ≤ 256 }
+        ensures { RepliesAs (setting_instructions instructions.now) self.old result self.new }
+    {
+        let breakpoints = instructions.as_slice();
+        let kept = copy_instructions(alloc, breakpoints)?;
+        let program = &self.settings.program;
+        let points = instructions_where(alloc, program, breakpoints, &self.lab)?;
+        let conditional = self.breaks_with(alloc, breakpoints)?;
+        self.keep_instructions(kept);
+        self.keep_conditional(conditional);
+        Ok(succeed(EditorBody::Breakpoints(points), FollowUp::Nothing))
+    }
+
+    fn keep_instructions(&mut self, instructions: Sequence<InstructionBreakpoint>)
+        ensures { (s : SessionState) → RepresentsSession self.old s → RepresentsSession self.new
+            (with_points (record s.settings.points { instructions = instructions }) s) }
+    {
+        self.settings.points.set_instructions(instructions);
+    }
+
+    // The program's breakpoints that have options, and those that aren't on lines, with these at
+    // instructions.
+    fn breaks_with(
+        &self,
+        alloc: Global,
+        instructions: &[InstructionBreakpoint],
+    ) -> Result<Option<ConditionalBreakpoints>, AllocError>
+        ensures { FindsWanted (instructions_wanted instructions.now) self.now result }
+    {
+        match &self.settings.program {
+            None => Ok(None),
+            Some(program) => {
+                let wanted = ProgramBreakpoints {
+                    instructions,
+                    ..wanted_of(&self.settings.points, program)
+                };
+                let points = conditional_for(alloc, &self.lab, program, &wanted)?;
+                Ok(Some(points))
+            }
+        }
+    }
+}
