@@ -23,9 +23,10 @@ class Ended(Exception):
 class Editor:
     """A debugger of its own, and the messages sent to it and received from it. It ends with a `with`."""
 
-    def __init__(self, *words):
-        self.process = subprocess.Popen([debugger(), *words], stdin=subprocess.PIPE, stdout=subprocess.PIPE,
-                                        stderr=subprocess.PIPE, bufsize=0)
+    def __init__(self, *words, folder=None):
+        """Starts it with these words, in this folder."""
+        self.process = subprocess.Popen([os.path.abspath(debugger()), *words], stdin=subprocess.PIPE, stdout=subprocess.PIPE,
+                                        stderr=subprocess.PIPE, bufsize=0, cwd=folder)
         self.into, self.out = self.process.stdin.fileno(), self.process.stdout.fileno()
         os.set_blocking(self.into, False)
         self.heard, self.messages = b"", collections.deque()
@@ -263,8 +264,8 @@ class Session(unittest.TestCase):
         """The path of a copy of examples/count.asm."""
         return self.program(example("count.asm"), "count.asm")
 
-    def editor(self, *words):
-        return self.enterContext(Editor(*words))
+    def editor(self, *words, folder=None):
+        return self.enterContext(Editor(*words, folder=folder))
 
     def changes(self, editor, breakpoint):
         """The editor is told of a breakpoint that isn't what it was."""

@@ -28,7 +28,8 @@ PROGRAMS = {
 
 COMMANDS = (
     "initialize", "launch", "configurationDone", "restart", "terminate", "setBreakpoints", "setFunctionBreakpoints",
-    "setDataBreakpoints", "setDataBreakpoints", "dataBreakpointInfo", "breakpointLocations", "setExceptionBreakpoints",
+    "setDataBreakpoints", "setDataBreakpoints", "setInstructionBreakpoints", "setInstructionBreakpoints", "dataBreakpointInfo",
+    "breakpointLocations", "setExceptionBreakpoints",
     "loadedSources", "threads", "stackTrace", "scopes", "variables", "setVariable", "continue", "next",
     "stepIn", "stepOut", "stepBack", "reverseContinue", "pause", "source", "evaluate", "readMemory", "writeMemory", "disassemble",
     "attach", "boardSwitches", "boardPress", "boardType", "boardReset", "boardAliases", "dumpCell", "debugInfo",
@@ -49,6 +50,9 @@ OPTIONS = (
 )
 
 DATA_IDS = ("A", "L", "HL", "SP", "PC", "0000:16", "0004:1", "FFFE:2", "FFFF:2", "010B:0", "x", "")
+
+REFERENCES = ("0x0000", "0x0100", "0x010b", "0xFFFF", "0x100", "START", "")
+OFFSETS = (0, 0, 0, 1, 2, -1, 65_535, 4_294_967_295, 1.5)
 
 # Values to replace any argument.
 VALUES = (
@@ -80,8 +84,9 @@ def likely(folder, chance):
     return {
         "program": path, "stopOnEntry": chance.random() < 0.5, "noDebug": chance.random() < 0.2, "aliases": chance.random() < 0.3,
         "switches": chance.randrange(256), "source": {"path": path}, "frameId": chance.randrange(3), "levels": chance.randrange(80),
-        "breakpoints": [{"line": chance.randrange(16), "name": "START", "dataId": chance.choice(DATA_IDS)} | chance.choice(OPTIONS)
-                        for _ in range(chance.randrange(4))],
+        "breakpoints": [{"line": chance.randrange(16), "name": "START", "dataId": chance.choice(DATA_IDS),
+                         "instructionReference": chance.choice(REFERENCES), "offset": chance.choice(OFFSETS)}
+                        | chance.choice(OPTIONS) for _ in range(chance.randrange(4))],
         "variablesReference": chance.randrange(7), "start": chance.randrange(70_000), "count": chance.randrange(70_000),
         "name": chance.choice(("A", "SP", "0100", "x", "HL+1", "1/0")), "granularity": chance.choice(("instruction", "line")),
         "value": chance.choice(("5", "0FFH", "65536", 7, "")), "expression": chance.choice(EXPRESSIONS),

@@ -15,8 +15,8 @@ COMPARED = 0x400
 
 NOWHERE = "the run begins here"
 
-# The number of the first data breakpoint; the next ones follow.
-FIRST_DATA_ID = 256 * 1025 + 1
+# The numbers of the first data breakpoint and of the first one at an instruction; the next ones follow.
+FIRST_DATA_ID, FIRST_INSTRUCTION_ID = 256 * 1025 + 1, 256 * 1026 + 1
 
 
 class Walk:
@@ -57,20 +57,22 @@ class Walk:
 
     def way(self):
         """What is done next: from the start mostly forward, from an end mostly back."""
-        kind = self.chance.randrange(22)
+        kind = self.chance.randrange(24)
         if kind < 3:
             return self.change
         if kind < 6:
             return self.set_breakpoints
         if kind < 8:
             return self.set_data_breakpoints
-        if kind == 8:
+        if kind < 10:
+            return self.set_instruction_breakpoints
+        if kind == 10:
             return self.look
         if self.plain.held:
-            return self.forward if kind == 9 else self.back
+            return self.forward if kind == 11 else self.back
         if self.plain.board.count == 0:
-            return self.back if kind == 9 else self.forward
-        return self.forward if kind < 16 else self.back
+            return self.back if kind == 11 else self.forward
+        return self.forward if kind < 18 else self.back
 
     # ---- messages
 
@@ -299,6 +301,22 @@ class Walk:
         equal(answer, [{"id": FIRST_DATA_ID + number, "verified": True} for number in range(len(points))])
         self.plain.data = [(places, holds or (lambda board: True)) for _, places, _, holds in points]
 
+    def set_instruction_breakpoints(self):
+        """Up to four, mostly where instructions begin, and some amid them or elsewhere."""
+        begin, any_of = sorted(self.program.firsts), sorted(self.program.lines)
+        places = [self.chance.choice((begin, begin, begin, any_of, range(65_536))) for _ in range(self.chance.randint(0, 4))]
+        points = [(self.chance.choice(some), *self.condition()) for some in places]
+        given = []
+        for address, condition, _ in points:
+            base = self.chance.choice((address, self.chance.randrange(65_536)))
+            given.append({"instructionReference": f"0x{base:04x}", "offset": address - base})
+            if condition:
+                given[-1]["condition"] = condition
+        answer = self.do("setInstructionBreakpoints", breakpoints=given)["breakpoints"]
+        equal(answer, [{"id": FIRST_INSTRUCTION_ID + number, "instructionReference": f"0x{address:04x}", "verified": True}
+                       for number, (address, *_) in enumerate(points)])
+        self.plain.instructions = [(address, holds or (lambda board: True)) for address, _, holds in points]
+
     def watched(self):
         """What a data breakpoint watches: its dataId, and its places. It is a register, a pair, or bytes among the data, the
         counters of loops and the stack."""
@@ -352,8 +370,8 @@ class FarWalk:
     def __init__(self, editor, path, chance):
         self.editor, self.path, self.chance = editor, path, chance
         self.inputs, self.count, self.told = [], 0, 0
-        # What a breakpoint at the carry does: it stops the run before it or, since the carry changes SP, behind it, tells a message,
-        # or there is none.
+        # What a breakpoint at the carry does: it stops the run before it, on its line or at its instruction, or, since the carry
+        # changes SP, behind it; it tells a message, or there is none.
         self.at_carry = None
 
     def go(self, actions):
@@ -430,12 +448,13 @@ class FarWalk:
         self.told = self.count
 
     def set_breakpoint(self):
-        self.at_carry = self.chance.choice(("stops", "changes", "tells", None))
+        self.at_carry, kind = self.chance.choice((
+            ("stops", "line"), ("stops", "instruction"), ("changes", "data"), ("tells", "line"), (None, None)))
         point = {"line": plain_far.CARRY_LINE} | ({"logMessage": "{SP}"} if self.at_carry == "tells" else {})
-        points = [point] if self.at_carry in ("stops", "tells") else []
-        self.editor.do("setBreakpoints", source={"path": self.path}, breakpoints=points)
-        data = [{"dataId": "SP"}] if self.at_carry == "changes" else []
-        self.editor.do("setDataBreakpoints", breakpoints=data)
+        self.editor.do("setBreakpoints", source={"path": self.path}, breakpoints=[point] if kind == "line" else [])
+        self.editor.do("setDataBreakpoints", breakpoints=[{"dataId": "SP"}] if kind == "data" else [])
+        at = {"instructionReference": f"0x{plain_far.STARTS[plain_far.CARRIES]:04x}"}
+        self.editor.do("setInstructionBreakpoints", breakpoints=[at] if kind == "instruction" else [])
 
 
 def equal(found, wanted):

@@ -14,6 +14,8 @@ class PlainDebugger:
         # Of each line with breakpoints that have conditions those conditions, each by what it says of a board; of each line with
         # log messages these, each by its condition and by its text on a board.
         self.conditions, self.messages = {}, {}
+        # Of each breakpoint at an instruction its address, and its condition by what it says of a board.
+        self.instructions = []
         # Of each data breakpoint the places that it watches, as of `Board.value`, and its condition; what was told of the last
         # change at which one stopped.
         self.data, self.change = [], None
@@ -41,7 +43,7 @@ class PlainDebugger:
     def take_breakpoints(self, other):
         """Has those of another run."""
         self.breakpoints, self.conditions, self.messages = other.breakpoints, other.conditions, other.messages
-        self.data = other.data
+        self.data, self.instructions = other.data, other.instructions
 
     def set_breakpoint(self, line, holds, text):
         """Sets one, with a condition or None, and with a log message or None."""
@@ -56,7 +58,9 @@ class PlainDebugger:
         return self.begins(board) and self.program.lines[board.pc] in self.breakpoints
 
     def is_at_condition(self, board):
-        return self.begins(board) and any(it(board) for it in self.conditions.get(self.program.lines[board.pc], ()))
+        """Whether a breakpoint with a condition, or one at an instruction, is met there."""
+        on_line = self.conditions.get(self.program.lines[board.pc], ()) if self.begins(board) else ()
+        return any(it(board) for it in on_line) or any(board.pc == at and holds(board) for at, holds in self.instructions)
 
     def watched(self, board):
         """PC, and what each watched place holds."""

@@ -617,9 +617,9 @@ class Refusals(Going):
     def test_granularities_that_are_none(self):
         editor = self.editor()
         editor.run_to(self.count(), AFTER_CALL)
-        for command in ("stepBack", "next"):
+        for command, told in (("stepBack", "bad arguments: granularity"), ("next", "bad arguments")):
             for granularity in (1, [], None):
-                self.assertEqual(editor.refusal(command, threadId=1, granularity=granularity), "bad arguments")
+                self.assertEqual(editor.refusal(command, threadId=1, granularity=granularity), told)
         self.assertEqual(editor.place(), ("main", AFTER_CALL))
 
 
@@ -638,7 +638,8 @@ class Looks(Going):
             ("disassemble", {"memoryReference": "0x0100", "instructionCount": 20, "instructionOffset": -5}),
             ("exceptionInfo", {"threadId": 1}), ("setBreakpoints", {"source": {"path": path}, "breakpoints": []}),
             ("setFunctionBreakpoints", {"breakpoints": []}), ("setExceptionBreakpoints", {"filters": ["halt"]}),
-            ("setDataBreakpoints", {"breakpoints": []}), ("dataBreakpointInfo", {"name": "SHOW"}),
+            ("setDataBreakpoints", {"breakpoints": []}), ("setInstructionBreakpoints", {"breakpoints": []}),
+            ("dataBreakpointInfo", {"name": "SHOW"}),
             ("evaluate", {"expression": "back 0", "context": "repl"}), ("evaluate", {"expression": "A", "context": "repl"}),
         ):
             editor.ask(command, **arguments)
@@ -729,7 +730,7 @@ class Long(Going):
             *WAYS, *(("evaluate", {"expression": words, "context": "repl"}) for words in ("A", "type x", "press 1", "switches 1")),
             ("setBreakpoints", {"source": {"path": self.path()}, "breakpoints": [{"line": 2}]}),
             ("setFunctionBreakpoints", {"breakpoints": []}), ("setExceptionBreakpoints", {"filters": []}),
-            ("setDataBreakpoints", {"breakpoints": []}),
+            ("setDataBreakpoints", {"breakpoints": []}), ("setInstructionBreakpoints", {"breakpoints": []}),
             ("setVariable", {"variablesReference": 1, "name": "A", "value": "1"}), ("goto", {"threadId": 1, "targetId": 0}),
             ("writeMemory", {"memoryReference": "0x0000", "data": "AA=="}), ("restart", {}), ("launch", {"program": self.path()}),
             ("configurationDone", {}), ("boardType", {"text": "x"}), ("boardPress", {"vector": 1}), ("boardSwitches", {"value": 1}),

@@ -34,55 +34,69 @@ FILES = (
     (b"HLT\n", "the program has no start: END names none"),
 )
 
-# Texts with a mistake, and its place.
+# Texts with a mistake, and how each is told: its place, its name, and what stands there.
 SLIPS = (
-    ("START: FOO\n", 1, 8, "Mnemonic"),
-    (" NOP\n\tJMP NOWHERE\n END 0\n", 2, 6, "Undefined"),
-    ("X: NOP\nX: NOP\n", 2, 1, "Twice"),
-    (" MVI A,256\n", 1, 8, "ByteRange"),
-    ("IF 1\n", 1, 1, "Conditional"),
-    ("; \u20ac\n NOP \u00e4\n", 2, 6, "Character"),
-    ("\n" * 65_537 + " NOP\n", 1, 1, "TooLong"),
+    ("START: FOO\n", "1:8 Mnemonic: FOO"), ("MOVE A,B\n", "1:1 Mnemonic: MOVE"), ("FOO", "1:1 Mnemonic: FOO"),
+    (" NOP\n\tJMP NOWHERE\n END 0\n", "2:6 Undefined: NOWHERE"), ("X: NOP\nX: NOP\n", "2:1 Twice: X"),
+    (" MVI A,0FFFH\n", "1:8 ByteRange: 0FFFH"), ("IF 1\n", "1:1 Conditional: IF"), (" NOP\r\n move a,b\r\n", "2:2 Mnemonic: move"),
+    ("MOVE\r\n", "1:1 Mnemonic: MOVE"), ("?X@1_Y A\n", "1:1 Mnemonic: ?X@1"), ("A.B\n", "1:1 Mnemonic: A"),
+    (" DB 12X\n", "1:5 Number: 12X"), ("START: NOP\n END STOP", "2:6 Undefined: STOP"),
+    # The most letters that are told.
+    ("N" * 32 + "\n", "1:1 Mnemonic: " + "N" * 32), ("N" * 33 + "\n", "1:1 Mnemonic: " + "N" * 32),
+    (f" JMP {'N' * 40}\n", "1:6 Name: " + "N" * 32), ("N" * 40, "1:1 Mnemonic: " + "N" * 32),
+    # A sign that is no word's.
+    ("#\n", "1:1 Mnemonic: #"), (" ~\n", "1:2 Mnemonic: ~"), (" DB 1 'a", "1:7 Text: '"), ('"', '1:1 Mnemonic: "'),
+    (f" DB {'(' * 65}1{')' * 65}\n", "1:5 Nesting: ("),
+    # Nothing that can be seen, or that can be told.
+    ("NOP\r", "1:4 Character"), ("NOP\r\r\n", "1:4 Character"), ("NOP \0X\n", "1:5 Character"), ("\x7f", "1:1 Character"),
+    ("FO\u00e9\n", "1:3 Character"), ("; \u20ac\n NOP \u00e4\n", "2:6 Character"),
+    ("\n" * 65_537 + " NOP\n", "1:1 TooLong"), ("FOO\n" + "\n" * 65_537, "1:1 TooLong"),
+    # A byte order mark, which only the text's first can be.
+    (f"\ufeff{START}", "1:1 Character: a byte order mark"), ("\ufeff\ufeff", "1:1 Character: a byte order mark"),
+    (f"\n\ufeff{START}", "2:1 Character"), (f";\ufeff\n\ufeff{START}", "2:1 Character"),
 )
 
-# Requests with invalid arguments.
+# In place of a value, no argument.
+GONE = object()
+
+NO_NUMBERS, NO_REFERENCES = (-1, 0.5, "1", None, 4_294_967_296), (GONE, 0, "0x000", "00000", "0x00g0", "0x00000")
+NO_SOURCES, SOURCE = (GONE, "x", [], {"name": "x"}, {"path": 1}), {"path": "x"}
+NO_LISTS, NO_TRUTHS = ({}, "A", [1], [{}], [None]), (1, None, "true", [])
+
+# Of each request that the kernel doesn't have its arguments, in the order in which they are read: a valid value, and invalid ones.
+ARGUMENTS = {
+    "initialize": {"supportsInvalidatedEvent": (True, *NO_TRUTHS), "supportsMemoryEvent": (True, *NO_TRUTHS)},
+    "launch": {"program": ("x", GONE, 1, None), "stopOnEntry": (True, *NO_TRUTHS), "stopAtEnd": (True, *NO_TRUTHS),
+               "noDebug": (True, *NO_TRUTHS), "aliases": (True, *NO_TRUTHS), "switches": (5, 256, -1, 1.0, "1", None),
+               "input": ("x", 1, None, ["x"]), "watchCommands": (True, *NO_TRUTHS)},
+    "setBreakpoints": {"source": (SOURCE, *NO_SOURCES),
+                       "breakpoints": ([], *NO_LISTS, [{"line": -1}], [{"condition": "A"}], [{"line": 1}] * 257)},
+    "breakpointLocations": {"source": (SOURCE, *NO_SOURCES), "line": (1, GONE, *NO_NUMBERS), "endLine": (1, *NO_NUMBERS)},
+    "gotoTargets": {"source": (SOURCE, *NO_SOURCES), "line": (1, GONE, *NO_NUMBERS)},
+    "setFunctionBreakpoints": {
+        "breakpoints": ([], GONE, *NO_LISTS, [{"name": "x"}, {"hitCondition": "2"}], [{"name": "x"}] * 257)},
+    "setDataBreakpoints": {
+        "breakpoints": ([], GONE, *NO_LISTS, ["A"], [{"condition": "1"}], [{"dataId": None}], [{"dataId": "A"}] * 257)},
+    "setExceptionBreakpoints": {"filters": ([], {}, "halt", None)},
+    "dataBreakpointInfo": {"variablesReference": (1, *NO_NUMBERS), "name": ("A", GONE, 1), "bytes": (1, *NO_NUMBERS),
+                           "asAddress": (True, *NO_TRUTHS)},
+    "evaluate": {"expression": ("A", GONE, 1, None), "context": ("watch", 1, None, ["repl"])},
+    "readMemory": {"memoryReference": ("0x0000", *NO_REFERENCES), "offset": (-1, 0.5, "1", None, -4_294_967_296),
+                   "count": (1, GONE, *NO_NUMBERS)},
+    "writeMemory": {"memoryReference": ("0x0000", *NO_REFERENCES), "offset": (-1, 0.5, "1", None, -4_294_967_296),
+                    "data": ("AA==", GONE, 1, "A", "A===", "@@@@", "AA", "A" * 87_384)},
+    "disassemble": {"memoryReference": ("0x0000", *NO_REFERENCES), "offset": (-1, 0.5, "1", None, -4_294_967_296),
+                    "instructionOffset": (0, -65_537, 70_000, 65_536, 0.5, "1", None),
+                    "instructionCount": (1, GONE, *NO_NUMBERS, 0, 1025)},
+    "stepBack": {"granularity": ("line", *NO_TRUTHS[:2], [])},
+    "goto": {"targetId": (0, GONE, *NO_NUMBERS, 65_536)},
+}
+
+# Requests with invalid arguments that the kernel has too.
 WRONG_ARGUMENTS = (
-    ("launch", {}), ("launch", {"program": 1}), ("launch", {"program": None}), ("launch", []), ("launch", "x"),
-    ("launch", {"program": "x", "stopOnEntry": 1}), ("launch", {"program": "x", "noDebug": "true"}),
-    ("launch", {"program": "x", "aliases": None}), ("launch", {"program": "x", "switches": 256}),
-    ("launch", {"program": "x", "switches": -1}), ("launch", {"program": "x", "switches": 1.0}),
-    ("launch", {"program": "x", "switches": "1"}),
-    ("setBreakpoints", {}), ("setBreakpoints", {"source": {"name": "x"}}), ("setBreakpoints", {"source": "x"}),
-    ("setBreakpoints", {"source": {"path": "x"}, "breakpoints": [1]}),
-    ("setBreakpoints", {"source": {"path": "x"}, "breakpoints": [{"line": -1}]}),
-    ("setBreakpoints", {"source": {"path": "x"}, "breakpoints": [{"condition": "A"}]}),
-    ("setBreakpoints", {"source": {"path": "x"}, "breakpoints": [{"line": 1}] * 257}),
-    ("setFunctionBreakpoints", {}), ("setFunctionBreakpoints", {"breakpoints": [{}]}),
-    ("setFunctionBreakpoints", {"breakpoints": [{"hitCondition": "2"}]}),
-    ("setFunctionBreakpoints", {"breakpoints": [{"name": "x"}] * 257}),
-    ("setDataBreakpoints", {}), ("setDataBreakpoints", {"breakpoints": "A"}), ("setDataBreakpoints", {"breakpoints": ["A"]}),
-    ("setDataBreakpoints", {"breakpoints": [{"condition": "1"}]}), ("setDataBreakpoints", {"breakpoints": [{"dataId": None}]}),
-    ("setDataBreakpoints", {"breakpoints": [{"dataId": "A"}] * 257}),
-    ("dataBreakpointInfo", {}), ("dataBreakpointInfo", {"name": 1}), ("dataBreakpointInfo", {"name": "A", "bytes": -1}),
-    ("dataBreakpointInfo", {"name": "A", "bytes": "1"}), ("dataBreakpointInfo", {"name": "A", "asAddress": 1}),
-    ("dataBreakpointInfo", {"name": "A", "variablesReference": "1"}),
-    ("breakpointLocations", {}), ("breakpointLocations", {"source": {"path": "x"}}),
-    ("breakpointLocations", {"source": {"path": "x"}, "line": 1, "endLine": "2"}),
-    ("evaluate", {}), ("evaluate", {"expression": 1}), ("evaluate", {"expression": "A", "context": 1}),
-    ("readMemory", {}), ("readMemory", {"memoryReference": "0x0000"}), ("readMemory", {"memoryReference": 0, "count": 1}),
-    ("readMemory", {"memoryReference": "0x000", "count": 1}), ("readMemory", {"memoryReference": "00000", "count": 1}),
-    ("readMemory", {"memoryReference": "0x00g0", "count": 1}), ("readMemory", {"memoryReference": "0x0000", "count": -1}),
-    ("readMemory", {"memoryReference": "0x0000", "count": 4_294_967_296}),
-    ("readMemory", {"memoryReference": "0x0000", "count": 1, "offset": 0.5}),
-    ("readMemory", {"memoryReference": "0x0000", "count": 1, "offset": -4_294_967_296}),
-    ("writeMemory", {"memoryReference": "0x0000"}), ("writeMemory", {"memoryReference": "0x0000", "data": "A"}),
-    ("writeMemory", {"memoryReference": "0x0000", "data": "A==="}), ("writeMemory", {"memoryReference": "0x0000", "data": "@@@@"}),
-    ("writeMemory", {"memoryReference": "0x0000", "data": "AA"}),
-    ("writeMemory", {"memoryReference": "0x0000", "data": "A" * 87_384}),
-    ("disassemble", {"memoryReference": "0x0000"}), ("disassemble", {"memoryReference": "0x0000", "instructionCount": "1"}),
-    ("disassemble", {"memoryReference": "0x0000", "instructionCount": 1025}),
-    ("scopes", {}), ("variables", {}), ("setVariable", {"variablesReference": 1, "name": "A"}), ("source", {}),
-    ("boardSwitches", {"value": 256}), ("boardAliases", {"aliases": 1}), ("stackTrace", 1),
+    ("next", {"granularity": 1}), ("stepIn", {"granularity": None}), ("stepOut", []), ("stackTrace", 1), ("scopes", {}),
+    ("variables", {}), ("setVariable", {"variablesReference": 1, "name": "A"}), ("source", {}), ("boardSwitches", {"value": 256}),
+    ("boardPress", {}), ("boardType", {"text": 1}), ("boardAliases", {"aliases": 1}),
 )
 
 # Bodies that aren't requests, or have no number.
@@ -170,10 +184,10 @@ class Files(Session):
     def test_a_slip_is_told_with_its_place(self):
         editor = self.editor()
         editor.initialize()
-        for text, line, column, name in SLIPS:
+        for text, told in SLIPS:
             path = self.program(text, "slip.asm")
-            told = f"{line}:{column} {name}"
             self.assertEqual(editor.refusal("launch", program=path), told)
+            line, column = map(int, told.partition(" ")[0].split(":"))
             place = {"column": column, "line": line, "source": {"name": "slip.asm", "path": path}}
             self.assertEqual(editor.event(), ("output", {"category": "stderr", "output": told + "\n"} | place))
         editor.do("launch", program=self.count())
@@ -224,15 +238,42 @@ class Requests(Session):
         self.assertFalse(editor.ask("restart")["success"])
         self.assertTrue(editor.is_quiet())
 
-    def test_arguments_that_are_not_as_they_must_be(self):
+    def is_bad(self, editor, command, arguments, name):
+        """The request is refused, since this argument is bad."""
+        asked = arguments
+        if isinstance(arguments, dict):
+            asked = {each: value for each, value in arguments.items() if value is not GONE}
+        editor.messages.clear()
+        editor.send(command, asked)
+        response = editor.next()
+        told = f"bad arguments: {name}" if name else "bad arguments"
+        self.assertEqual((response["success"], response.get("message")), (False, told), f"{command} {asked}"[:200])
+
+    def test_a_bad_argument_is_named(self):
         editor = self.editor()
         editor.initialize()
+        for command, values in ARGUMENTS.items():
+            good = {name: value for name, (value, *_) in values.items()}
+            self.assertNotIn("bad arguments", editor.ask(command, **good).get("message", ""))
+            for name, (_, *bad) in values.items():
+                for value in bad:
+                    self.is_bad(editor, command, good | {name: value}, name)
+        self.is_bad(editor, "launch", {"porgram": "x"}, "program")
         for command, arguments in WRONG_ARGUMENTS:
-            editor.messages.clear()
-            editor.send(command, arguments)
-            response = editor.next()
-            self.assertEqual((response["success"], response.get("message")), (False, "bad arguments"), (command, arguments))
+            self.is_bad(editor, command, arguments, None)
         self.assertTrue(editor.is_quiet())
+
+    def test_the_first_bad_argument_is_named(self):
+        editor = self.editor()
+        editor.initialize()
+        for command, values in ARGUMENTS.items():
+            asked = {name: bad for name, (_, bad, *_) in reversed(values.items())}
+            for name, (good, *_) in values.items():
+                self.is_bad(editor, command, asked, name)
+                asked[name] = good
+            # No arguments at all.
+            for arguments in ([], "x", 1):
+                self.is_bad(editor, command, arguments, next(iter(values)))
 
     def test_arguments_that_are_null(self):
         editor = self.editor()

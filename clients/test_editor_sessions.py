@@ -74,9 +74,10 @@ CAPABILITIES = {
     **dict.fromkeys((
         "supportsBreakpointLocationsRequest", "supportsConditionalBreakpoints", "supportsConfigurationDoneRequest",
         "supportsDataBreakpointBytes", "supportsDataBreakpoints", "supportsDisassembleRequest", "supportsEvaluateForHovers",
-        "supportsExceptionInfoRequest", "supportsFunctionBreakpoints", "supportsGotoTargetsRequest", "supportsLoadedSourcesRequest",
-        "supportsLogPoints", "supportsReadMemoryRequest", "supportsRestartRequest", "supportsSetVariable", "supportsStepBack",
-        "supportsSteppingGranularity", "supportsTerminateRequest", "supportsWriteMemoryRequest"), True),
+        "supportsExceptionInfoRequest", "supportsFunctionBreakpoints", "supportsGotoTargetsRequest",
+        "supportsInstructionBreakpoints", "supportsLoadedSourcesRequest", "supportsLogPoints", "supportsReadMemoryRequest",
+        "supportsRestartRequest", "supportsSetVariable", "supportsStepBack", "supportsSteppingGranularity",
+        "supportsTerminateRequest", "supportsWriteMemoryRequest"), True),
     "exceptionBreakpointFilters": [
         {"filter": "undefined", "label": "Undefined opcodes", "default": True},
         {"filter": "halt", "label": "HLT", "default": False}]}
@@ -97,9 +98,9 @@ CONVERSATION = (
      '"supportsConditionalBreakpoints":true,"supportsConfigurationDoneRequest":true,'
      '"supportsDataBreakpointBytes":true,"supportsDataBreakpoints":true,'
      '"supportsDisassembleRequest":true,"supportsEvaluateForHovers":true,"supportsExceptionInfoRequest":true,'
-     '"supportsFunctionBreakpoints":true,"supportsGotoTargetsRequest":true,"supportsLoadedSourcesRequest":true,'
-     '"supportsLogPoints":true,"supportsReadMemoryRequest":true,"supportsRestartRequest":true,"supportsSetVariable":true,'
-     '"supportsStepBack":true,"supportsSteppingGranularity":true,'
+     '"supportsFunctionBreakpoints":true,"supportsGotoTargetsRequest":true,"supportsInstructionBreakpoints":true,'
+     '"supportsLoadedSourcesRequest":true,"supportsLogPoints":true,"supportsReadMemoryRequest":true,'
+     '"supportsRestartRequest":true,"supportsSetVariable":true,"supportsStepBack":true,"supportsSteppingGranularity":true,'
      '"supportsTerminateRequest":true,"supportsWriteMemoryRequest":true},"command":"initialize","request_seq":1,"seq":1,'
      '"success":true,"type":"response"}'),
     ('{"seq":2,"type":"request","command":"launch","arguments":{"program":"PATH"}}',
@@ -710,9 +711,9 @@ class Ends(Session):
         editor, path = self.editor(), self.count()
         editor.run_to(path, SHOW)
         self.program("START: FOO\n", "count.asm")
-        self.assertEqual(editor.refusal("restart"), "1:8 Mnemonic")
+        self.assertEqual(editor.refusal("restart"), "1:8 Mnemonic: FOO")
         place = {"column": 8, "line": 1, "source": {"name": "count.asm", "path": path}}
-        self.assertEqual(editor.event(), ("output", {"category": "stderr", "output": "1:8 Mnemonic\n"} | place))
+        self.assertEqual(editor.event(), ("output", {"category": "stderr", "output": "1:8 Mnemonic: FOO\n"} | place))
         self.assertEqual(editor.place(), ("SHOW", SHOW))
         os.remove(path)
         self.assertEqual(editor.refusal("restart"), "no file")
