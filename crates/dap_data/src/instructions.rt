@@ -1,25 +1,24 @@
 //! Breakpoints at instructions.
-ghost use Rattle.std.specs.Prelude.{◌≡◌, ◌≤◌, ◌++◌, length, map, IfOk, OnOk, option_to_list};
+ghost use Rattle.std.specs.Prelude.{◌≡◌, ◌≤◌, ◌++◌, length, map, IfOk, OnOk};
+ghost use Rattle.std.specs.List.{filter_map};
 ghost use Rattle.lab_core.specs.Board.{Board};
 ghost use Rattle.lab_core.specs.Labs.{RepresentsBoard};
 ghost use Rattle.dap_data.specs.Instructions.{instruction_objection, checked_instruction, instructions_on};
-ghost use Rattle.dap_data.specs.Instructions.{break_where, break_of, breaks_on};
+ghost use Rattle.dap_data.specs.Instructions.{break_at, break_of, breaks_on};
 
 use crate::points::push_stop;
 use base_text::sequence::Sequence;
-use base_text::text::Text;
 use dap_editor::request::InstructionBreakpoint;
-use dap_lines::conditions::condition_objection;
+use dap_lines::conditions::{objection, stop_by};
 use dap_messages::message::{BreakpointNote, PlacedBreakpoint};
 use dap_points::placed::{CheckedInstruction, instruction_points as placed_points};
-use dap_slice::conditions::{ConditionalBreakpoints, Trigger};
+use dap_slice::conditions::{ConditionalBreakpoint, ConditionalBreakpoints, Trigger};
 use lab_core::lab::Lab;
 use std::alloc::{AllocError, Global};
 
 // ---- what there is to object to one
 
-/// What there is to object to a breakpoint at an instruction, if there is anything.
-pub fn objection(
+fn objection_to(
     alloc: Global,
     lab: &Lab,
     breakpoint: &InstructionBreakpoint,
@@ -27,12 +26,9 @@ pub fn objection(
     ensures { (b : Board) → RepresentsBoard lab.now b
         → IfOk result (λ note. note ≡ instruction_objection b breakpoint.now) }
 {
-    if !breakpoint.is_plain {
-        return Ok(Some(BreakpointNote::NotSupported));
-    }
     match breakpoint.address {
         None => Ok(Some(BreakpointNote::NoAddress)),
-        Some(_) => condition_objection(alloc, lab, &breakpoint.condition),
+        Some(_) => objection(alloc, lab, &breakpoint.options, breakpoint.has_texts),
     }
 }
 
@@ -46,11 +42,11 @@ fn checked_instruction(
     ensures { (b : Board) → RepresentsBoard lab.now b
         → IfOk result (λ checked. checked ≡ checked_instruction b breakpoint.now) }
 {
-    let objection = objection(alloc, lab, breakpoint)?;
-    let condition = breakpoint.condition.clone()?;
+    let objection = objection_to(alloc, lab, breakpoint)?;
+    let options = breakpoint.options.clone()?;
     Ok(CheckedInstruction {
         address: breakpoint.address,
-        condition,
+        options,
         objection,
     })
 }
@@ -87,52 +83,61 @@ pub fn instruction_points(
 
 // ---- where they stop a run
 
-fn push_where(
+fn break_at(
     alloc: Global,
-    points: &mut ConditionalBreakpoints,
-    condition: &Option<Text>,
+    point: &PlacedBreakpoint,
     address: Option<u16>,
-) -> Result<(), AllocError>
-    ensures { OnOk result (points.new ≡ points.old ++ option_to_list (break_where condition.now address)) }
+) -> Result<Option<ConditionalBreakpoint>, AllocError>
+    ensures { IfOk result (λ found. found ≡ break_at point.now address) }
 {
     match address {
-        None => Ok(()),
-        Some(address) => push_stop(alloc, points, condition, Trigger::Address(address)),
+        None => Ok(None),
+        Some(address) => stop_by(alloc, point.id, Trigger::Address(address), &point.options),
     }
 }
 
-// Adds the address of a breakpoint, unless there is something to object to it.
-fn push_break(
+// Where a breakpoint stops a run, if it is verified.
+fn break_of(
     alloc: Global,
-    lab: &Lab,
-    points: &mut ConditionalBreakpoints,
-    breakpoint: &InstructionBreakpoint,
-) -> Result<(), AllocError>
-    ensures { (b : Board) → RepresentsBoard lab.now b
-        → OnOk result (points.new ≡ points.old ++ option_to_list (break_of b breakpoint.now)) }
+    point: &PlacedBreakpoint,
+) -> Result<Option<ConditionalBreakpoint>, AllocError>
+    ensures { IfOk result (λ found. found ≡ break_of point.now) }
 {
-    if objection(alloc, lab, breakpoint)?.is_some() {
-        return Ok(());
+    if point.is_verified {
+        break_at(alloc, point, point.address)
+    } else {
+        Ok(None)
     }
-    push_where(alloc, points, &breakpoint.condition, breakpoint.address)
 }
 
-/// Adds the addresses where breakpoints at instructions stop a run.
+fn push_all(
+    alloc: Global,
+    points: &mut ConditionalBreakpoints,
+    placed: &[PlacedBreakpoint],
+) -> Result<(), AllocError>
+    ensures { OnOk result (points.new ≡ points.old ++ filter_map break_of placed.now) }
+{
+    let mut left = placed;
+    while let Some((point, later)) = left.split_first() {
+        push_stop(points, break_of(alloc, point)?)?;
+        left = later;
+    }
+    Ok(())
+}
+
+/// Adds the addresses where breakpoints at instructions stop a run: those of verified ones.
 pub fn push_breaks(
     alloc: Global,
     lab: &Lab,
     points: &mut ConditionalBreakpoints,
     breakpoints: &[InstructionBreakpoint],
 ) -> Result<(), AllocError>
+    requires { length breakpoints.now ≤ 256 }
     ensures { (b : Board) → RepresentsBoard lab.now b
         → OnOk result (points.new ≡ points.old ++ breaks_on b breakpoints.now) }
 {
-    let mut left = breakpoints;
-    while let Some((breakpoint, later)) = left.split_first() {
-        push_break(alloc, lab, points, breakpoint)?;
-        left = later;
-    }
-    Ok(())
+    let placed = instruction_points(alloc, lab, breakpoints)?;
+    push_all(alloc, points, placed.as_slice())
 }
 
 // ---- copies
@@ -140,11 +145,11 @@ pub fn push_breaks(
 fn copy_breakpoint(breakpoint: &InstructionBreakpoint) -> Result<InstructionBreakpoint, AllocError>
     ensures { IfOk result (λ copy. copy ≡ breakpoint.now) }
 {
-    let condition = breakpoint.condition.clone()?;
+    let options = breakpoint.options.clone()?;
     Ok(InstructionBreakpoint {
         address: breakpoint.address,
-        condition,
-        is_plain: breakpoint.is_plain,
+        options,
+        has_texts: breakpoint.has_texts,
     })
 }
 

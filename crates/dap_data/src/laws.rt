@@ -1,9 +1,8 @@
 //! Laws of the definitions.
-ghost use Rattle.std.specs.Prelude.{◌≡◌, ◌++◌, ◌≤◌, ◌+◌, ℕ, List, All, Contains, Some, true};
+ghost use Rattle.std.specs.Prelude.{◌≡◌, ◌++◌, ◌≤◌, ◌+◌, ℕ, List, All, Contains, Some};
 ghost use Rattle.base_text.specs.Bytes.{Text};
 ghost use Rattle.lab_core.specs.Board.{Board};
 ghost use Rattle.dap_slice.specs.declared.conditions.ConditionalBreakpoint.{ConditionalBreakpoint};
-ghost use Rattle.dap_messages.specs.declared.message.PlacedBreakpoint.{PlacedBreakpoint};
 ghost use Rattle.dap_editor.specs.declared.request.DataQuery.{DataQuery};
 ghost use Rattle.dap_editor.specs.declared.request.DataBreakpoint.{DataBreakpoint};
 ghost use Rattle.dap_editor.specs.declared.request.InstructionBreakpoint.{InstructionBreakpoint};
@@ -12,8 +11,8 @@ ghost use Rattle.dap_data.specs.Places.{registers, pairs, id_of, data_named};
 ghost use Rattle.dap_data.specs.Info.{data_info};
 ghost use Rattle.dap_data.specs.Points.{points_on, watches_on};
 ghost use Rattle.dap_data.specs.Instructions.{instructions_on, breaks_on};
-ghost use Rattle.dap_data.specs.Laws.{SetsDescribed, IsToldAs, HoldsOfVerified, AreAllWatched, IsWatchOf};
-ghost use Rattle.dap_data.specs.Laws.{HoldsOfEachVerified, IsMetAsTold, IsBreakOf};
+ghost use Rattle.dap_data.specs.Laws.{SetsDescribed, HoldsOfVerified, HoldsOfEachVerified};
+ghost use Rattle.dap_data.specs.Laws.{AreAllWatched, IsWatchOf, IsMetAsTold, IsBreakOf};
 
 /// Each register, each pair, and 1 to 16 bytes that are in memory are set by their text.
 pub fn ids_are_read()
@@ -30,16 +29,16 @@ pub fn told_data_is_set()
 {}
 
 /// A breakpoint of which an editor is told that it is verified is watched at each of its places under its
-/// condition; and only such breakpoints are watched.
+/// conditions, with the number that the editor is told; and only such breakpoints are watched.
 pub fn verified_is_watched()
-    ensures verified { (b : Board) (ds : List DataBreakpoint) (d : DataBreakpoint) (p : PlacedBreakpoint)
-        → IsToldAs ds (points_on b ds) d p → p.is_verified ≡ true → AreAllWatched (watches_on b ds) d }
+    ensures verified { (b : Board) (ds : List DataBreakpoint)
+        → HoldsOfEachVerified ds (points_on b ds) (AreAllWatched (watches_on b ds)) }
     ensures others { (b : Board) (ds : List DataBreakpoint) (w : ConditionalBreakpoint)
         → Contains (watches_on b ds) w → HoldsOfVerified ds (points_on b ds) (IsWatchOf w) }
 {}
 
 /// A breakpoint at an instruction of which an editor is told that it is verified is met at the address that
-/// the editor is told, under its condition; and only such breakpoints are met.
+/// the editor is told, under its conditions and with its number; and only such breakpoints are met.
 pub fn verified_is_met_at()
     ensures verified { (b : Board) (asked : List InstructionBreakpoint)
         → HoldsOfEachVerified asked (instructions_on b asked) (IsMetAsTold (breaks_on b asked)) }

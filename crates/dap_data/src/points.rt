@@ -1,23 +1,21 @@
 //! Breakpoints on data.
-ghost use Rattle.std.specs.Prelude.{◌≡◌, ◌≤◌, ◌++◌, length, map, take, IfOk, OnOk, IfSome};
-ghost use Rattle.std.specs.Prelude.{option_to_list};
-ghost use Rattle.std.specs.List.{filter_map, flat_map};
+ghost use Rattle.std.specs.Prelude.{◌≡◌, ◌≤◌, ◌++◌, length, map, IfOk, OnOk, IfSome, option_to_list};
+ghost use Rattle.std.specs.List.{filter_map};
 ghost use Rattle.lab_core.specs.Board.{Board};
 ghost use Rattle.lab_core.specs.Labs.{RepresentsBoard};
 ghost use Rattle.dap_slice.specs.declared.conditions.Trigger.TheVariants.{Change};
-ghost use Rattle.dap_lines.specs.Conditions.{condition_read};
-ghost use Rattle.dap_data.specs.Places.{IsInMemory, places_of};
-ghost use Rattle.dap_data.specs.Points.{unknown_note, data_objection, checked_on, points_on, stop_with};
-ghost use Rattle.dap_data.specs.Points.{watches_at, watches_of, watches_on};
+ghost use Rattle.dap_lines.specs.Conditions.{stop_by};
+ghost use Rattle.dap_data.specs.Places.{IsInMemory};
+ghost use Rattle.dap_data.specs.Points.{unknown_note, data_objection, checked_on, points_on};
+ghost use Rattle.dap_data.specs.Points.{watches_at, watches_of, watches_by, watches_on};
 
 use crate::place::DataPlace;
-use asm_syntax::fault::LineFault;
 use base_text::sequence::Sequence;
 use base_text::text::Text;
 use dap_editor::request::DataBreakpoint;
-use dap_lines::conditions::{condition_objection, condition_read};
+use dap_lines::conditions::{objection, stop_by};
 use dap_messages::message::{BreakpointNote, PlacedBreakpoint};
-use dap_points::placed::{CheckedData, MOST_DATA, data_points as placed_points};
+use dap_points::placed::{CheckedData, data_points as placed_points};
 use dap_slice::conditions::{ConditionalBreakpoint, ConditionalBreakpoints, Trigger};
 use lab_core::lab::Lab;
 use lab_shown::place::Place;
@@ -34,8 +32,7 @@ fn unknown_data(alloc: Global, id: &str) -> Result<BreakpointNote, AllocError>
     Ok(BreakpointNote::Wrong(Text::from(text)))
 }
 
-/// What there is to object to a breakpoint on data, if there is anything.
-pub fn objection(
+fn objection_to(
     alloc: Global,
     lab: &Lab,
     breakpoint: &DataBreakpoint,
@@ -43,16 +40,13 @@ pub fn objection(
     ensures { (b : Board) → RepresentsBoard lab.now b
         → IfOk result (λ note. note ≡ data_objection b breakpoint.now) }
 {
-    if !breakpoint.is_plain {
-        return Ok(Some(BreakpointNote::NotSupported));
-    }
     if !breakpoint.is_write {
         let text = Text::copy_of(alloc, "only writes are watched")?;
         return Ok(Some(BreakpointNote::Wrong(text)));
     }
     match DataPlace::from_id(breakpoint.data_id.as_str()) {
         None => Ok(Some(unknown_data(alloc, breakpoint.data_id.as_str())?)),
-        Some(_) => condition_objection(alloc, lab, &breakpoint.condition),
+        Some(_) => objection(alloc, lab, &breakpoint.options, breakpoint.has_texts),
     }
 }
 
@@ -66,12 +60,9 @@ fn checked_on(
     ensures { (b : Board) → RepresentsBoard lab.now b
         → IfOk result (λ checked. checked ≡ checked_on b breakpoint.now) }
 {
-    let objection = objection(alloc, lab, breakpoint)?;
-    let condition = breakpoint.condition.clone()?;
-    Ok(CheckedData {
-        condition,
-        objection,
-    })
+    let objection = objection_to(alloc, lab, breakpoint)?;
+    let options = breakpoint.options.clone()?;
+    Ok(CheckedData { options, objection })
 }
 
 fn all_checked(
@@ -106,39 +97,32 @@ pub fn data_points(
 
 // ---- where they stop a run
 
-// Adds where a run stops and a condition, unless that has a fault.
+/// Adds where a run stops, if it does.
 pub(crate) fn push_stop(
-    alloc: Global,
     points: &mut ConditionalBreakpoints,
-    condition: &Option<Text>,
-    trigger: Trigger,
+    stop: Option<ConditionalBreakpoint>,
 ) -> Result<(), AllocError>
-    ensures { OnOk result (points.new
-        ≡ points.old ++ option_to_list (stop_with trigger (condition_read condition.now))) }
+    ensures { OnOk result (points.new ≡ points.old ++ option_to_list stop) }
 {
-    match condition_read(alloc, condition) {
-        Ok(condition) => points.push(ConditionalBreakpoint {
-            trigger,
-            condition,
-            log: None,
-        }),
-        Err(LineFault::OutOfMemory) => Err(AllocError),
-        Err(LineFault::At { .. }) => Ok(()),
+    match stop {
+        None => Ok(()),
+        Some(stop) => points.push(stop),
     }
 }
 
 fn push_places(
     alloc: Global,
     points: &mut ConditionalBreakpoints,
-    condition: &Option<Text>,
+    point: &PlacedBreakpoint,
     places: &[Place],
 ) -> Result<(), AllocError>
     ensures { OnOk result (points.new ≡ points.old
-        ++ filter_map (λ place. stop_with (Change place) (condition_read condition.now)) places.now) }
+        ++ filter_map (λ place. stop_by point.now.id (Change place) point.now.options) places.now) }
 {
     let mut left = places;
     while let Some((place, later)) = left.split_first() {
-        push_stop(alloc, points, condition, Trigger::Change(*place))?;
+        let stop = stop_by(alloc, point.id, Trigger::Change(*place), &point.options)?;
+        push_stop(points, stop)?;
         left = later;
     }
     Ok(())
@@ -147,65 +131,69 @@ fn push_places(
 fn push_at(
     alloc: Global,
     points: &mut ConditionalBreakpoints,
-    condition: &Option<Text>,
+    point: &PlacedBreakpoint,
     place: Option<DataPlace>,
 ) -> Result<(), AllocError>
     requires { IfSome place IsInMemory }
-    ensures { OnOk result (points.new ≡ points.old ++ watches_at condition.now place) }
+    ensures { OnOk result (points.new ≡ points.old ++ watches_at point.now place) }
 {
     let Some(place) = place else {
         return Ok(());
     };
     let places = place.places(alloc)?;
-    push_places(alloc, points, condition, places.as_slice())
+    push_places(alloc, points, point, places.as_slice())
 }
 
-// Adds the places of a breakpoint, unless there is something to object to it.
+// Adds the places of a breakpoint, if it is verified.
 fn push_breakpoint(
     alloc: Global,
-    lab: &Lab,
     points: &mut ConditionalBreakpoints,
     breakpoint: &DataBreakpoint,
+    point: &PlacedBreakpoint,
 ) -> Result<(), AllocError>
-    ensures { (b : Board) → RepresentsBoard lab.now b
-        → OnOk result (points.new ≡ points.old ++ watches_of b breakpoint.now) }
+    ensures { OnOk result (points.new ≡ points.old ++ watches_of breakpoint.now point.now) }
 {
-    if objection(alloc, lab, breakpoint)?.is_some() {
+    if !point.is_verified {
         return Ok(());
     }
     let place = DataPlace::from_id(breakpoint.data_id.as_str());
-    push_at(alloc, points, &breakpoint.condition, place)
+    push_at(alloc, points, point, place)
 }
 
 fn push_all(
     alloc: Global,
-    lab: &Lab,
     points: &mut ConditionalBreakpoints,
     breakpoints: &[DataBreakpoint],
+    placed: &[PlacedBreakpoint],
 ) -> Result<(), AllocError>
-    ensures { (b : Board) → RepresentsBoard lab.now b
-        → OnOk result (points.new ≡ points.old ++ flat_map (watches_of b) breakpoints.now) }
+    ensures { OnOk result (points.new ≡ points.old ++ watches_by breakpoints.now placed.now) }
 {
     let mut left = breakpoints;
-    while let Some((breakpoint, later)) = left.split_first() {
-        push_breakpoint(alloc, lab, points, breakpoint)?;
+    let mut told = placed;
+    while let (Some((breakpoint, later)), Some((point, others))) = (
+        left.split_first(),
+        told.split_first(),
+    ) {
+        push_breakpoint(alloc, points, breakpoint, point)?;
         left = later;
+        told = others;
     }
     Ok(())
 }
 
-/// Adds the places where breakpoints on data stop a run: those of the first 16.
+/// Adds the places where breakpoints on data stop a run: those of verified ones.
 pub fn push_watches(
     alloc: Global,
     lab: &Lab,
     points: &mut ConditionalBreakpoints,
     breakpoints: &[DataBreakpoint],
 ) -> Result<(), AllocError>
+    requires { length breakpoints.now ≤ 256 }
     ensures { (b : Board) → RepresentsBoard lab.now b
         → OnOk result (points.new ≡ points.old ++ watches_on b breakpoints.now) }
 {
-    let count = breakpoints.len().min(MOST_DATA);
-    push_all(alloc, lab, points, breakpoints.split_at(count).0)
+    let placed = data_points(alloc, lab, breakpoints)?;
+    push_all(alloc, points, breakpoints, placed.as_slice())
 }
 
 // ---- copies
@@ -214,12 +202,12 @@ fn copy_breakpoint(breakpoint: &DataBreakpoint) -> Result<DataBreakpoint, AllocE
     ensures { IfOk result (λ copy. copy ≡ breakpoint.now) }
 {
     let data_id = breakpoint.data_id.clone()?;
-    let condition = breakpoint.condition.clone()?;
+    let options = breakpoint.options.clone()?;
     Ok(DataBreakpoint {
         data_id,
-        condition,
+        options,
         is_write: breakpoint.is_write,
-        is_plain: breakpoint.is_plain,
+        has_texts: breakpoint.has_texts,
     })
 }
 

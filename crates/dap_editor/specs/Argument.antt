@@ -150,28 +150,40 @@ option_text key d = option_and_then some_text (text_at key d)
 abbrev pub options_of : Data → BreakpointOptions
 options_of d = record {
   condition = option_text (codes "condition") d;
+  hit_condition = option_text (codes "hitCondition") d;
   log_message = option_text (codes "logMessage") d;
+}
+
+-- of a breakpoint that can't have a log message
+abbrev pub conditions_of : Data → BreakpointOptions
+conditions_of d = record {
+  condition = option_text (codes "condition") d;
+  hit_condition = option_text (codes "hitCondition") d;
+  log_message = None;
 }
 
 abbrev pub is_text_or_unset : Text → Data → Bool
 is_text_or_unset key d = is_some (text_at key d) || is_unset (get key d)
 
--- without a hit count, which isn't supported; the others are texts
-abbrev pub is_plain : Data → Bool
-is_plain d =
-    is_text_or_unset (codes "condition") d
-    && (is_text_or_unset (codes "logMessage") d && is_unset (get (codes "hitCondition") d))
+-- those conditions that it has are texts
+abbrev pub has_text_conditions : Data → Bool
+has_text_conditions d =
+    is_text_or_unset (codes "condition") d && is_text_or_unset (codes "hitCondition") d
+
+-- and its log message
+abbrev pub has_texts : Data → Bool
+has_texts d = has_text_conditions d && is_text_or_unset (codes "logMessage") d
 
 -- on a line
 abbrev pub line_of : Data → Option LineBreakpoint
 line_of d =
-    option_map (λ n. record { line = n; options = options_of d; is_plain = is_plain d })
+    option_map (λ n. record { line = n; options = options_of d; has_texts = has_texts d })
     (option_and_then (whole_between 0 4294967295) (get (codes "line") d))
 
 -- at a label
 abbrev pub function_of : Data → Option FunctionBreakpoint
 function_of d =
-    option_map (λ text. record { name = text; options = options_of d; is_plain = is_plain d })
+    option_map (λ text. record { name = text; options = options_of d; has_texts = has_texts d })
     (text_at (codes "name") d)
 
 -- absent, `null`, an empty text or `write`
@@ -179,18 +191,14 @@ abbrev pub is_write : Option Data → Bool
 is_write None = true
 is_write (Some d) = is_some (as_null d) || (is_text [] d || is_text (codes "write") d)
 
--- without a hit count; the condition is a text
-abbrev pub is_plain_data : Data → Bool
-is_plain_data d = is_text_or_unset (codes "condition") d && is_unset (get (codes "hitCondition") d)
-
 -- where a place is changed
 abbrev pub data_breakpoint_of : Data → Option DataBreakpoint
 data_breakpoint_of d =
     option_map (λ text. record {
       data_id = text;
-      condition = option_text (codes "condition") d;
+      options = conditions_of d;
       is_write = is_write (get (codes "accessType") d);
-      is_plain = is_plain_data d;
+      has_texts = has_text_conditions d;
     })
     (text_at (codes "dataId") d)
 
@@ -210,8 +218,8 @@ abbrev pub instruction_of : Data → Option InstructionBreakpoint
 instruction_of d =
     option_map (λ place. record {
       address = place;
-      condition = option_text (codes "condition") d;
-      is_plain = is_plain_data d;
+      options = conditions_of d;
+      has_texts = has_text_conditions d;
     })
     (place_of d)
 

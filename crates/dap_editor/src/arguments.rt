@@ -11,8 +11,8 @@ ghost use Rattle.dap_editor.specs.Argument.{required_value, value_or, IsBackWith
 ghost use Rattle.dap_editor.specs.Argument.{shift_within, shift};
 ghost use Rattle.dap_editor.specs.Argument.{context, granularity, is_text, has_text, filters, no_filters};
 ghost use Rattle.dap_editor.specs.Argument.{is_unset, some_text, option_text, options_of, is_text_or_unset};
-ghost use Rattle.dap_editor.specs.Argument.{is_plain, line_of};
-ghost use Rattle.dap_editor.specs.Argument.{is_write, is_plain_data, data_breakpoint_of};
+ghost use Rattle.dap_editor.specs.Argument.{conditions_of, has_text_conditions, has_texts, line_of};
+ghost use Rattle.dap_editor.specs.Argument.{is_write, data_breakpoint_of};
 ghost use Rattle.dap_editor.specs.Argument.{offset_in, place_of, instruction_of};
 ghost use Rattle.dap_editor.specs.Argument.{function_of, all_of};
 ghost use Rattle.dap_editor.specs.Argument.{breakpoints, lines, functions, data_breakpoints, instructions};
@@ -320,14 +320,26 @@ fn option_text(alloc: Global, breakpoint: &Value, key: &str) -> Result<Option<Te
     }
 }
 
+fn conditions_of(alloc: Global, breakpoint: &Value) -> Result<BreakpointOptions, AllocError>
+    ensures { IfOk result (λ options. options ≡ conditions_of (view breakpoint.now)) }
+{
+    let condition = option_text(alloc, breakpoint, "condition")?;
+    let hit_condition = option_text(alloc, breakpoint, "hitCondition")?;
+    Ok(BreakpointOptions {
+        condition,
+        hit_condition,
+        log_message: None,
+    })
+}
+
 fn options_of(alloc: Global, breakpoint: &Value) -> Result<BreakpointOptions, AllocError>
     ensures { IfOk result (λ options. options ≡ options_of (view breakpoint.now)) }
 {
-    let condition = option_text(alloc, breakpoint, "condition")?;
+    let conditions = conditions_of(alloc, breakpoint)?;
     let log_message = option_text(alloc, breakpoint, "logMessage")?;
     Ok(BreakpointOptions {
-        condition,
         log_message,
+        ..conditions
     })
 }
 
@@ -337,12 +349,16 @@ fn is_text_or_unset(breakpoint: &Value, key: &str) -> bool
     members::text_at(breakpoint, key).is_some() || is_unset(breakpoint, key)
 }
 
-fn is_plain(breakpoint: &Value) -> bool
-    ensures { result ≡ is_plain (view breakpoint.now) }
+fn has_text_conditions(breakpoint: &Value) -> bool
+    ensures { result ≡ has_text_conditions (view breakpoint.now) }
 {
-    is_text_or_unset(breakpoint, "condition")
-        && is_text_or_unset(breakpoint, "logMessage")
-        && is_unset(breakpoint, "hitCondition")
+    is_text_or_unset(breakpoint, "condition") && is_text_or_unset(breakpoint, "hitCondition")
+}
+
+fn has_texts(breakpoint: &Value) -> bool
+    ensures { result ≡ has_texts (view breakpoint.now) }
+{
+    has_text_conditions(breakpoint) && is_text_or_unset(breakpoint, "logMessage")
 }
 
 fn line_at(breakpoint: &Value) -> Option<u32>
@@ -362,7 +378,7 @@ fn line_of(alloc: Global, breakpoint: &Value) -> Result<Option<LineBreakpoint>, 
     Ok(Some(LineBreakpoint {
         line,
         options,
-        is_plain: is_plain(breakpoint),
+        has_texts: has_texts(breakpoint),
     }))
 }
 
@@ -394,7 +410,7 @@ fn function_of(alloc: Global, breakpoint: &Value) -> Result<Option<FunctionBreak
     Ok(Some(FunctionBreakpoint {
         name,
         options,
-        is_plain: is_plain(breakpoint),
+        has_texts: has_texts(breakpoint),
     }))
 }
 
@@ -424,12 +440,6 @@ fn is_write(breakpoint: &Value) -> bool
     }
 }
 
-fn is_plain_data(breakpoint: &Value) -> bool
-    ensures { result ≡ is_plain_data (view breakpoint.now) }
-{
-    is_text_or_unset(breakpoint, "condition") && is_unset(breakpoint, "hitCondition")
-}
-
 fn data_breakpoint_of(
     alloc: Global,
     breakpoint: &Value,
@@ -440,12 +450,12 @@ fn data_breakpoint_of(
         return Ok(None);
     };
     let data_id = Text::copy_of(alloc, data_id)?;
-    let condition = option_text(alloc, breakpoint, "condition")?;
+    let options = conditions_of(alloc, breakpoint)?;
     Ok(Some(DataBreakpoint {
         data_id,
-        condition,
+        options,
         is_write: is_write(breakpoint),
-        is_plain: is_plain_data(breakpoint),
+        has_texts: has_text_conditions(breakpoint),
     }))
 }
 
@@ -495,11 +505,11 @@ fn instruction_of(
     let Some(address) = place_of(breakpoint) else {
         return Ok(None);
     };
-    let condition = option_text(alloc, breakpoint, "condition")?;
+    let options = conditions_of(alloc, breakpoint)?;
     Ok(Some(InstructionBreakpoint {
         address,
-        condition,
-        is_plain: is_plain_data(breakpoint),
+        options,
+        has_texts: has_text_conditions(breakpoint),
     }))
 }
 

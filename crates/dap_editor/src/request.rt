@@ -73,8 +73,8 @@ pub struct Launch {
 pub struct LineBreakpoint {
     pub line: u32,
     pub options: BreakpointOptions,
-    /// Whether it asks for nothing else, such as a hit count.
-    pub is_plain: bool,
+    /// Whether those that it has are texts.
+    pub has_texts: bool,
 }
 
 /// A breakpoint at a label.
@@ -82,8 +82,8 @@ pub struct LineBreakpoint {
 pub struct FunctionBreakpoint {
     pub name: Text,
     pub options: BreakpointOptions,
-    /// Whether it asks for nothing else, such as a hit count.
-    pub is_plain: bool,
+    /// Whether those that it has are texts.
+    pub has_texts: bool,
 }
 
 /// What an editor asks about a data breakpoint (Debug Adapter Protocol, `dataBreakpointInfo`).
@@ -102,11 +102,12 @@ pub struct DataQuery {
 #[derive(Drop)]
 pub struct DataBreakpoint {
     pub data_id: Text,
-    pub condition: Option<Text>,
+    /// There is no log message among them.
+    pub options: BreakpointOptions,
     /// False if it is for reads too.
     pub is_write: bool,
-    /// Whether it asks for nothing else, such as a hit count.
-    pub is_plain: bool,
+    /// Whether those options that it has are texts.
+    pub has_texts: bool,
 }
 
 /// A breakpoint at an instruction.
@@ -114,9 +115,10 @@ pub struct DataBreakpoint {
 pub struct InstructionBreakpoint {
     /// Where the instruction begins; `None` if there is no such address.
     pub address: Option<u16>,
-    pub condition: Option<Text>,
-    /// Whether it asks for nothing else, such as a hit count.
-    pub is_plain: bool,
+    /// There is no log message among them.
+    pub options: BreakpointOptions,
+    /// Whether those that it has are texts.
+    pub has_texts: bool,
 }
 
 /// The ends of a run at which an editor wants it held (Debug Adapter Protocol, `setExceptionBreakpoints`).

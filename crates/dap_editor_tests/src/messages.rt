@@ -18,7 +18,7 @@ enum Note {
     NotLaunched,
     OtherProgram(&'static str),
     Wrong(&'static str),
-    NotSupported,
+    NotText,
     NoLabel,
     NoAddress,
     TooMany,
@@ -32,7 +32,7 @@ fn breakpoint_note(alloc: Global, note: &Note) -> Result<BreakpointNote, AllocEr
         Note::NotLaunched => Ok(BreakpointNote::NotLaunched),
         Note::OtherProgram(path) => Ok(BreakpointNote::OtherProgram(Text::copy_of(alloc, path)?)),
         Note::Wrong(why) => Ok(BreakpointNote::Wrong(Text::copy_of(alloc, why)?)),
-        Note::NotSupported => Ok(BreakpointNote::NotSupported),
+        Note::NotText => Ok(BreakpointNote::NotText),
         Note::NoLabel => Ok(BreakpointNote::NoLabel),
         Note::NoAddress => Ok(BreakpointNote::NoAddress),
         Note::TooMany => Ok(BreakpointNote::TooMany),
@@ -68,6 +68,7 @@ enum Shape {
 
 const NO_OPTIONS: BreakpointOptions = BreakpointOptions {
     condition: None,
+    hit_condition: None,
     log_message: None,
 };
 
@@ -209,7 +210,8 @@ const BODIES: [(Shape, &str); 32] = [
             r#""supportsDataBreakpoints":true,"supportsDisassembleRequest":true,"#,
             r#""supportsEvaluateForHovers":true,"supportsExceptionInfoRequest":true,"#,
             r#""supportsFunctionBreakpoints":true,"supportsGotoTargetsRequest":true,"#,
-            r#""supportsInstructionBreakpoints":true,"supportsLoadedSourcesRequest":true,"#,
+            r#""supportsHitConditionalBreakpoints":true,"supportsInstructionBreakpoints":true,"#,
+            r#""supportsLoadedSourcesRequest":true,"#,
             r#""supportsLogPoints":true,"supportsReadMemoryRequest":true,"#,
             r#""supportsRestartRequest":true,"supportsSetVariable":true,"supportsStepBack":true,"#,
             r#""supportsSteppingGranularity":true,"supportsTerminateRequest":true,"#,
@@ -245,9 +247,9 @@ const BODIES: [(Shape, &str); 32] = [
         r#"{"breakpoints":[{"id":1,"line":1,"message":"condition: Undefined","verified":false}]}"#,
     ),
     (
-        Shape::Noted(1, Note::NotSupported),
+        Shape::Noted(1, Note::NotText),
         concat!(
-            r#"{"breakpoints":[{"id":1,"line":1,"message":"hit counts are not supported","#,
+            r#"{"breakpoints":[{"id":1,"line":1,"message":"conditions and log messages must be texts","#,
             r#""verified":false}]}"#,
         ),
     ),

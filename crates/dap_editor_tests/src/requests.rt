@@ -84,26 +84,25 @@ fn put_launch(told: &mut String, launch: &Launch) -> Result<(), AllocError> {
     put_canonical(told, program, launch.canonical.as_str())
 }
 
-fn put_condition(told: &mut String, condition: &Option<Text>) -> Result<(), AllocError> {
-    if let Some(condition) = condition {
-        let text = condition.as_str();
-        write!(told, " if {text}")?;
+// Adds an option after this word, if it is there.
+fn put_option(told: &mut String, word: &str, option: &Option<Text>) -> Result<(), AllocError> {
+    if let Some(option) = option {
+        let text = option.as_str();
+        write!(told, " {word} {text}")?;
     }
     Ok(())
 }
 
-// What follows a breakpoint: its options, and `?` if it asks for more.
+// What follows a breakpoint: its options, and `?` if one isn't a text.
 fn put_options(
     told: &mut String,
     options: &BreakpointOptions,
-    is_plain: bool,
+    has_texts: bool,
 ) -> Result<(), AllocError> {
-    put_condition(told, &options.condition)?;
-    if let Some(message) = &options.log_message {
-        let text = message.as_str();
-        write!(told, " log {text}")?;
-    }
-    if !is_plain {
+    put_option(told, "if", &options.condition)?;
+    put_option(told, "hit", &options.hit_condition)?;
+    put_option(told, "log", &options.log_message)?;
+    if !has_texts {
         told.push_str("?")?;
     }
     Ok(())
@@ -118,7 +117,7 @@ fn put_lines(
     for breakpoint in breakpoints {
         let line = breakpoint.line;
         write!(told, " {line}")?;
-        put_options(told, &breakpoint.options, breakpoint.is_plain)?;
+        put_options(told, &breakpoint.options, breakpoint.has_texts)?;
     }
     Ok(())
 }
@@ -128,7 +127,7 @@ fn put_functions(told: &mut String, breakpoints: &[FunctionBreakpoint]) -> Resul
     for breakpoint in breakpoints {
         let name = breakpoint.name.as_str();
         write!(told, " {name}")?;
-        put_options(told, &breakpoint.options, breakpoint.is_plain)?;
+        put_options(told, &breakpoint.options, breakpoint.has_texts)?;
     }
     Ok(())
 }
@@ -142,24 +141,21 @@ fn put_query(told: &mut String, query: &DataQuery) -> Result<(), AllocError> {
     Ok(())
 }
 
-// Each with `*` if it is for reads too, and `?` if it asks for more than a condition.
+// Each with `*` if it is for reads too.
 fn put_data(told: &mut String, breakpoints: &[DataBreakpoint]) -> Result<(), AllocError> {
     told.push_str("data")?;
     for breakpoint in breakpoints {
         let id = breakpoint.data_id.as_str();
         write!(told, " {id}")?;
-        put_condition(told, &breakpoint.condition)?;
         if !breakpoint.is_write {
             told.push_str("*")?;
         }
-        if !breakpoint.is_plain {
-            told.push_str("?")?;
-        }
+        put_options(told, &breakpoint.options, breakpoint.has_texts)?;
     }
     Ok(())
 }
 
-// Each with `-` if it has no address, and `?` if it asks for more than a condition.
+// Each with `-` if it has no address.
 fn put_instructions(
     told: &mut String,
     breakpoints: &[InstructionBreakpoint],
@@ -170,10 +166,7 @@ fn put_instructions(
             Some(address) => write!(told, " {address}")?,
             None => told.push_str(" -")?,
         }
-        put_condition(told, &breakpoint.condition)?;
-        if !breakpoint.is_plain {
-            told.push_str("?")?;
-        }
+        put_options(told, &breakpoint.options, breakpoint.has_texts)?;
     }
     Ok(())
 }
@@ -437,9 +430,16 @@ setBreakpoints {"source":{"path":"a"},"breakpoints":[{"line":1,"condition":"A"}]
 setBreakpoints {"source":{"path":"a"},"breakpoints":[{"line":1,"condition":7}]} -> lines a 1?
 setBreakpoints {"source":{"path":"a"},"breakpoints":[{"line":1,"condition":null}]} -> lines a 1
 setBreakpoints {"source":{"path":"a"},"#,
-    r#""breakpoints":[{"line":1,"condition":"B","hitCondition":"2"}]} -> lines a 1 if B?
+    r#""breakpoints":[{"line":1,"condition":"B","hitCondition":"2"}]} -> lines a 1 if B hit 2
+setBreakpoints {"source":{"path":"a"},"breakpoints":[{"line":1,"hitCondition":"%2","#,
+    r#""condition":"B","logMessage":"{B}"}]} -> lines a 1 if B hit %2 log {B}
+setBreakpoints {"source":{"path":"a"},"#,
+    r#""breakpoints":[{"line":1,"condition":7,"hitCondition":"2"}]} -> lines a 1 hit 2?
 setBreakpoints {"source":{"path":"a"},"breakpoints":[{"line":1,"hitCondition":null}]} -> lines a 1
-setBreakpoints {"source":{"path":"a"},"breakpoints":[{"line":1,"hitCondition":"2"}]} -> lines a 1?
+setBreakpoints {"source":{"path":"a"},"breakpoints":[{"line":1,"hitCondition":""}]} -> lines a 1
+setBreakpoints {"source":{"path":"a"},"breakpoints":[{"line":1,"hitCondition":" > 2"}]} -> lines a 1 hit  > 2
+setBreakpoints {"source":{"path":"a"},"breakpoints":[{"line":1,"hitCondition":2}]} -> lines a 1?
+setBreakpoints {"source":{"path":"a"},"breakpoints":[{"line":1,"hitCondition":["2"]}]} -> lines a 1?
 setBreakpoints {"source":{"path":"a"},"breakpoints":[{"line":1,"logMessage":"B {B}"}]} -> lines a 1 log B {B}
 setBreakpoints {"source":{"path":"a"},"breakpoints":[{"line":1,"logMessage":7}]} -> lines a 1?
 setBreakpoints {"source":{"path":"a"},"breakpoints":[{"line":1,"logMessage":"x"}]} -> lines a 1 log x
@@ -460,6 +460,8 @@ setFunctionBreakpoints {"breakpoints":[{"name":1}]} -> Argument breakpoints
 setFunctionBreakpoints {"breakpoints":[{"name":"A","condition":""},{"name":""}]} -> functions A 
 setFunctionBreakpoints {"breakpoints":[{"name":"A","condition":"B"},{"name":"C"}]} -> functions A if B C
 setFunctionBreakpoints {"breakpoints":[{"name":"A","hitCondition":null}]} -> functions A
+setFunctionBreakpoints {"breakpoints":[{"name":"A","hitCondition":""}]} -> functions A
+setFunctionBreakpoints {"breakpoints":[{"name":"A","hitCondition":"3"},{"name":"B"}]} -> functions A hit 3 B
 setFunctionBreakpoints {"breakpoints":[{"name":"A","hitCondition":3}]} -> functions A?
 setFunctionBreakpoints {"breakpoints":[{"name":"A","condition":"B","logMessage":""}]} -> functions A if B
 setFunctionBreakpoints {"breakpoints":[{"name":"A","logMessage":""}]} -> functions A
@@ -498,10 +500,13 @@ setDataBreakpoints {"breakpoints":[{"dataId":"A","condition":null}]} -> data A
 setDataBreakpoints {"breakpoints":[{"dataId":"A","condition":7}]} -> data A?
 setDataBreakpoints {"breakpoints":[{"dataId":"A","hitCondition":""}]} -> data A
 setDataBreakpoints {"breakpoints":[{"dataId":"A","hitCondition":null}]} -> data A
-setDataBreakpoints {"breakpoints":[{"dataId":"A","hitCondition":"2"}]} -> data A?
+setDataBreakpoints {"breakpoints":[{"dataId":"A","hitCondition":"2"}]} -> data A hit 2
 setDataBreakpoints {"breakpoints":[{"dataId":"A","hitCondition":2}]} -> data A?
 setDataBreakpoints {"breakpoints":[{"dataId":"A","accessType":"readWrite","#,
-    r#""condition":"B","hitCondition":"2"}]} -> data A if B*?
+    r#""condition":"B","hitCondition":"2"}]} -> data A* if B hit 2
+setDataBreakpoints {"breakpoints":[{"dataId":"A","accessType":"read","#,
+    r#""condition":"B","hitCondition":2}]} -> data A* if B?
+setDataBreakpoints {"breakpoints":[{"dataId":"A","logMessage":"B"},{"dataId":"B","logMessage":7}]} -> data A B
 setDataBreakpoints {"breakpoints":[{"dataId":"A"},{"dataId":7}]} -> Argument breakpoints
 setDataBreakpoints {"breakpoints":[{"dataId":null}]} -> Argument breakpoints
 setDataBreakpoints {"breakpoints":[{"condition":"B"}]} -> Argument breakpoints
@@ -612,10 +617,14 @@ const INSTRUCTIONS: &str = r#""0x010b" -> instructions 267
 "0x0100","condition":"" -> instructions 256
 "0x0100","condition":null -> instructions 256
 "0x0100","condition":7 -> instructions 256?
-"0x0100","hitCondition":"2" -> instructions 256?
+"0x0100","hitCondition":"2" -> instructions 256 hit 2
+"","hitCondition":"2","condition":"A" -> instructions - if A hit 2
+"0x0100","hitCondition":2 -> instructions 256?
 "","condition":"A","hitCondition":2 -> instructions - if A?
 "0x0100","hitCondition":"" -> instructions 256
 "0x0100","hitCondition":null -> instructions 256
+"0x0100","logMessage":"A" -> instructions 256
+"0x0100","logMessage":7 -> instructions 256
 "0x0100","offset":4294967296 -> Argument breakpoints
 "0x0100","offset":-4294967296 -> Argument breakpoints
 "0x0100","offset":-0 -> Argument breakpoints

@@ -3,14 +3,15 @@ use Rattle.std.proofs.Common.{◌≡◌, List, [], ◌∷◌, Bool, true, false,
 use Rattle.std.specs.List.{list_any}
 use Rattle.lab_core.specs.Board.{Board}
 use Rattle.dap_slice.specs.declared.conditions.ConditionalBreakpoint.{ConditionalBreakpoint}
-use Rattle.dap_slice.specs.Conditions.{is_there, is_any_at, stops_on}
+use Rattle.dap_slice.specs.Conditions.{is_there, is_any_at, stops_back}
+use Rattle.dap_slice.specs.Hits.{is_wanted}
 use Rattle.dap_slice.proofs.ValueLemmas.{SameMachine, same_condition}
 
-same_stop : (b b' : Board) (p : ConditionalBreakpoint) → SameMachine b b' → stops_on b p ≡ stops_on b' p
+same_stop : (b b' : Board) (p : ConditionalBreakpoint) → SameMachine b b' → stops_back b p ≡ stops_back b' p
 same_stop b b' p same = rw (same_condition b b' p.condition same, same.machine) refl
 
 pub same_stops : (b b' : Board) (points : List ConditionalBreakpoint) → SameMachine b b'
-    → list_any (stops_on b) points ≡ list_any (stops_on b') points
+    → list_any (stops_back b) points ≡ list_any (stops_back b') points
 same_stops b b' [] same = refl
 same_stops b b' (p ∷ ps) same = rw (same_stop b b' p same, same_stops b b' ps same) refl
 
@@ -19,16 +20,18 @@ both_false false y is = (refl, is)
 both_false true y is = absurd cc
 
 not_there : (b : Board) (p : ConditionalBreakpoint) → is_there b.machine.regs.pc p ≡ false
-    → stops_on b p ≡ false
-not_there b p isn't = rw isn't (none_of (is_none p.log))
+    → stops_back b p ≡ false
+not_there b p isn't = rw isn't (none_of (is_none p.hits) (is_none p.log) (is_wanted p.hits))
   where
-    none_of : (x : Bool) → (x && false) ≡ false
-    none_of true = refl
-    none_of false = refl
+    none_of : (x y z : Bool) → (x && (y && (z && false))) ≡ false
+    none_of false y z = refl
+    none_of true false z = refl
+    none_of true true false = refl
+    none_of true true true = refl
 
 -- where no breakpoint is, none stops the run
 pub none_stops : (b : Board) (points : List ConditionalBreakpoint)
-    → is_any_at points b.machine.regs.pc ≡ false → list_any (stops_on b) points ≡ false
+    → is_any_at points b.machine.regs.pc ≡ false → list_any (stops_back b) points ≡ false
 none_stops b [] none = refl
 none_stops b (p ∷ ps) none =
     let apart = both_false _ _ none in

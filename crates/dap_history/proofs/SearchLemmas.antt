@@ -17,6 +17,8 @@ use Rattle.lab_core.specs.Moments.{MomentState, IsMomentOf, put_back}
 use Rattle.lab_core.proofs.MarkLemmas.{first-before}
 use Rattle.dap_slice.specs.declared.conditions.ConditionalBreakpoint.{ConditionalBreakpoint}
 use Rattle.dap_slice.specs.Conditions.{is_any_at}
+use Rattle.dap_slice.specs.Counts.{without_hits}
+use Rattle.dap_slice.proofs.CountLemmas.{back_without}
 use Rattle.dap_history.specs.declared.goal.Goal.{Goal}
 use Rattle.dap_history.specs.declared.goal.Goal.TheVariants.{Statement, Breakpoint}
 use Rattle.dap_history.specs.declared.input.Recorded.{Recorded}
@@ -149,6 +151,12 @@ pub held_goal : (points : List ConditionalBreakpoint) (was now : Board)
 held_goal points was now =
     ap (λ stops. is_met_at now.breakpoints now.loads was.machine.regs.pc || stops)
     (same_stops (after_rewind was now) (put_back was now) points (record { machine = refl; symbols = refl }))
+
+-- and whatever the counts of hits are
+pub recounted_goal : (points : List ConditionalBreakpoint) (b : Board)
+    → is_goal (without_hits points) Breakpoint b ≡ is_goal points Breakpoint b
+recounted_goal points b =
+    ap (λ stops. is_met_at b.breakpoints b.loads b.machine.regs.pc || stops) (back_without points b)
 
 -- between two tests no board passes
 pub passed_between : (points : List ConditionalBreakpoint) (goal : Goal) (was now : Board) (k : ℕ)

@@ -16,7 +16,7 @@ use Rattle.lab_core.specs.Labs.{LabState, RepresentsBoard}
 use Rattle.lab_core.specs.Marks.{MarksState}
 use Rattle.lab_core.specs.Moments.{MomentState, IsMomentOf, put_back}
 use Rattle.dap_slice.specs.declared.conditions.ConditionalBreakpoint.{ConditionalBreakpoint}
-use Rattle.dap_slice.specs.Conditions.{is_any_at, stops_on}
+use Rattle.dap_slice.specs.Conditions.{is_any_at, stops_back}
 use Rattle.dap_history.specs.declared.goal.Goal.{Goal}
 use Rattle.dap_history.specs.declared.goal.Goal.TheVariants.{Statement, Breakpoint}
 use Rattle.dap_history.specs.declared.input.Recorded.{Recorded}
@@ -40,7 +40,7 @@ is_met_at lists loads address = nat_lt address 65536 && is_met lists loads addre
 abbrev pub is_goal : List ConditionalBreakpoint → Goal → Board → Bool
 is_goal points (Statement depth) b = is_there Line b && nat_le (length (live b.trace)) depth
 is_goal points Breakpoint b =
-    is_met_at b.breakpoints b.loads b.machine.regs.pc || list_any (stops_on b) points
+    is_met_at b.breakpoints b.loads b.machine.regs.pc || list_any (stops_back b) points
 
 -- the last count below n that passes the test, or 0
 unfoldable pub last_below : (ℕ → Bool) → ℕ → ℕ

@@ -114,7 +114,7 @@ fn begins_statement(lab: &Lab) -> bool
 pub fn is_at_breakpoint(lab: &Lab, points: &ConditionalBreakpoints) -> bool
     ensures { (b : Board) → RepresentsBoard lab.now b → result ≡ is_goal points.now Goal.Breakpoint b }
 {
-    lab.has_breakpoint_at(lab.regs().pc) || points.is_any_met(lab)
+    lab.has_breakpoint_at(lab.regs().pc) || points.is_any_met_back(lab)
 }
 
 // Whether the board passes.

@@ -3,7 +3,7 @@ ghost use Rattle.lab_core.specs.Events.{Fits};
 
 use crate::logs::{are_kept, is_appended, is_cut, stay_until};
 use crate::play::{Live, make, numbers, told};
-use crate::searches::{compare_searches, find, goal_of, set_condition, set_line};
+use crate::searches::{EACH_HIT, compare_searches, find, goal_of, set_condition, set_line};
 use crate::seen::{Notes, note, see};
 use dap_history::fault::ReplayFault;
 use lab_core::event::Event;
@@ -93,7 +93,8 @@ fn search(live: &mut Live, notes: &mut Notes, line: (&str, &str)) -> Result<bool
     let [n, count, pauses] = numbers(line.1);
     match line.0 {
         "break" => set_line(live, n),
-        "when" => set_condition(live, line.1),
+        "when" => set_condition(live, line.1, None),
+        "hit" => set_condition(live, line.1, Some(EACH_HIT)),
         "find" => find(live, goal_of(n), count, pauses),
         "searches" => compare_searches(live, notes, goal_of(n)),
         _ => make(live, notes, line),

@@ -211,6 +211,21 @@ most 7
 +find b 9
 ";
 
+/// X is reached as above. A breakpoint with a hit condition stops no run that goes back.
+const HITS: &str = "\
+X: INR A
+JMP X
+--
+most 7
++skip 80
++hit 0 1
++find b 0
++when 0 A==5
++hit 0 A==9
++goto 80
++find b 10
+";
+
 /// The byte at V is one more at 2, 5, 8, .., where the JMP is reached. A condition is asked of the run as it
 /// was then: at 80 the byte is 27. A step back by a statement doesn't ask it.
 const READS: &str = "\
@@ -246,7 +261,7 @@ most 4096
 
 #[test]
 fn searches_find_conditions(rt: HostRuntime) -> Result<(), AllocError> {
-    check(&rt, &[ONCE, VALUES, TOGETHER, READS, FAR_CONDITION])
+    check(&rt, &[ONCE, VALUES, TOGETHER, HITS, READS, FAR_CONDITION])
 }
 
 /// Inputs that are cut after a count: it, how many are later, and how many are left.

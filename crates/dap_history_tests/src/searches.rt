@@ -8,6 +8,7 @@ use dap_history::fault::ReplayFault;
 use dap_history::goal::Goal;
 use dap_history::search::Search;
 use dap_slice::conditions::{ConditionalBreakpoint, Trigger};
+use dap_slice::hits::{HitCondition, Hits};
 use lab_test_kit::script::set_breakpoints;
 use std::alloc::AllocError;
 
@@ -19,26 +20,40 @@ pub fn set_line(live: &mut Live, line: u64) -> Result<bool, AllocError> {
     }
 }
 
+/// A hit condition that is true at each hit, of which there was one.
+pub const EACH_HIT: Hits = Hits {
+    condition: HitCondition::AtLeast(1),
+    count: 1,
+};
+
 // Adds a breakpoint with a condition.
-fn push_condition(live: &mut Live, address: u16, text: &str) -> Result<bool, AllocError> {
+fn push_condition(
+    live: &mut Live,
+    address: u16,
+    text: &str,
+    hits: Option<Hits>,
+) -> Result<bool, AllocError> {
     let condition = match Expression::parse(live.alloc, text) {
         Ok(condition) => condition,
         Err(LineFault::OutOfMemory) => return Err(AllocError),
         Err(LineFault::At { .. }) => return Ok(false),
     };
     live.points.push(ConditionalBreakpoint {
+        id: 0,
         trigger: Trigger::Address(address),
         condition: Some(condition),
+        hits,
         log: None,
     })?;
     Ok(true)
 }
 
-/// Adds a breakpoint with a condition, as an address and the condition's text say.
-pub fn set_condition(live: &mut Live, line: &str) -> Result<bool, AllocError> {
+/// Adds a breakpoint with a condition, as an address and the condition's text say, and with a hit condition
+/// if there is one.
+pub fn set_condition(live: &mut Live, line: &str, hits: Option<Hits>) -> Result<bool, AllocError> {
     match line.split_once(" ") {
         Some((word, text)) => match word.parse() {
-            Ok(address) => push_condition(live, address, text),
+            Ok(address) => push_condition(live, address, text, hits),
             Err(_) => Ok(false),
         },
         None => Ok(false),

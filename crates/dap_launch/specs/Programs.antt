@@ -118,6 +118,7 @@ program_lists p kept = record {
 -- they have the number of a source, and are as few as a request may have
 abbrev pub AreFew : ProgramLists → Type 0
 AreFew w = (w.number ≤ 1025) × (length w.lines ≤ 256) × (length w.functions ≤ 256)
+    × (length w.on_data ≤ 256) × (length w.instructions ≤ 256)
 
 -- the program's board, which stops on these lines and at these labels
 abbrev pub armed_for : Program → ProgramLists → Board → Board

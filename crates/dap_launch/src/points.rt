@@ -122,7 +122,7 @@ fn copy_line(breakpoint: &LineBreakpoint) -> Result<LineBreakpoint, AllocError>
     Ok(LineBreakpoint {
         line: breakpoint.line,
         options,
-        is_plain: breakpoint.is_plain,
+        has_texts: breakpoint.has_texts,
     })
 }
 
@@ -148,7 +148,7 @@ fn copy_function(function: &FunctionBreakpoint) -> Result<FunctionBreakpoint, Al
     Ok(FunctionBreakpoint {
         name,
         options,
-        is_plain: function.is_plain,
+        has_texts: function.has_texts,
     })
 }
 

@@ -218,6 +218,7 @@ fn push_off_lines(
     wanted: &ProgramBreakpoints<'_>,
     points: &mut ConditionalBreakpoints,
 ) -> Result<(), AllocError>
+    requires { AreFew (lists_in wanted.now) }
     ensures { (b : Board) → RepresentsBoard lab.now b
         → OnOk result (points.new ≡ points.old ++ off_lines program.now (lists_in wanted.now) b) }
 {
@@ -236,6 +237,7 @@ fn conditional_with(
     wanted: &ProgramBreakpoints<'_>,
     lists: &PlacedLists,
 ) -> Result<ConditionalBreakpoints, AllocError>
+    requires { AreFew (lists_in wanted.now) }
     ensures { (b : Board) → RepresentsBoard lab.now b → IfOk result (λ points. points
         ≡ conditional_in program.now b lists.now.lines lists.now.labels
         ++ off_lines program.now (lists_in wanted.now) b) }

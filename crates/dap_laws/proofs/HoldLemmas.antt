@@ -24,7 +24,7 @@ use Rattle.dap_inputs.specs.Inputs.{input_of, is_success, as_meant}
 use Rattle.dap_session.specs.States.{SessionState, with_waits, has_watch_commands}
 use Rattle.dap_session.specs.Turns.{Turn}
 use Rattle.dap_session.specs.Requests as session
-use Rattle.dap_session.specs.Rewinds.{can_go_back, rewound}
+use Rattle.dap_session.specs.Rewinds.{can_go_back, held_at}
 use Rattle.dap_session.specs.Laws.{asks_to_load, LeavesAll}
 use Rattle.dap_session.proofs.RefusalLemmas.{refused_turn}
 use Rattle.dap_record.specs.declared.mid_search.MidSearch.TheVariants as mid
@@ -37,7 +37,7 @@ use Rattle.dap_record.specs.Turns.{RecordedTurn, recorded_turn, back_in, turn_of
 use Rattle.dap_record.specs.Slices.{RecordedTold, slice_told, Input, request, slice, step, play_all}
 use Rattle.dap_record.specs.Slices.{meant_by, request_told}
 use Rattle.dap_record.proofs.RecordedLemmas.{look_leaves}
-use Rattle.dap_record.proofs.TravelLemmas.{can_rewound}
+use Rattle.dap_record.proofs.TravelLemmas.{can_held}
 use Rattle.dap_laws.specs.Recorded.{after_all, IsRecordingOfIf, RefusalLeaves, tried_again}
 use Rattle.dap_laws.specs.Recorded.{WatchesOnlyLook}
 use Rattle.dap_laws.proofs.CaseLemmas.{turn_for, of_turn, of_back, of_slice}
@@ -77,9 +77,9 @@ initialized_by true a c is = refl
 initialized_by false a c is = absurd cc
 
 begins_held : (a : RequestContent) (c : Back) (r : Recording) (s : SessionState) → back_in a s ≡ Some c
-    → can_go_back s ≡ true → IsHeld (rewound (board_at r.start r.log r.count) s)
+    → can_go_back s ≡ true → IsHeld (held_at (board_at r.start r.log r.count) s)
 begins_held a c r s is can = record {
-  can = can_rewound (board_at r.start r.log r.count) s can;
+  can = can_held (board_at r.start r.log r.count) s can;
   run = refl;
   is_initialized = initialized_by s.settings.is_initialized a c is;
 }

@@ -1,6 +1,6 @@
 -- A breakpoint that is told as verified is met.
 use Rattle.std.proofs.Common.{◌≡◌, ◌≤◌, ◌∙◌, ℕ, List, [], ◌∷◌, ◌++◌, length, map, take}
-use Rattle.std.proofs.Common.{zero, Bool, true, false, ◌||◌, if◌then◌else◌, option_and_then}
+use Rattle.std.proofs.Common.{zero, Bool, true, false, ◌||◌, if◌then◌else◌, option_and_then, option_map}
 use Rattle.std.proofs.Common.{◌==◌, Option, Some, None, refl, sym, ap, subst, ⊎_elim, arith}
 use Rattle.std.specs.List.{Contains, list_any, filter_map, cons_option}
 use Rattle.std.proofs.lemmas.List.{length-map, take_all}
@@ -17,13 +17,15 @@ use Rattle.dap_editor.specs.declared.request.LineBreakpoint.{LineBreakpoint}
 use Rattle.dap_editor.specs.declared.request.FunctionBreakpoint.{FunctionBreakpoint}
 use Rattle.dap_messages.specs.declared.message.PlacedBreakpoint.{PlacedBreakpoint}
 use Rattle.dap_slice.specs.declared.conditions.ConditionalBreakpoint.{ConditionalBreakpoint}
+use Rattle.dap_slice.specs.declared.conditions.Trigger.{Trigger}
+use Rattle.dap_slice.specs.declared.conditions.Trigger.TheVariants.{Address}
 use Rattle.dap_points.specs.Boards.{wanted_lines}
 use Rattle.dap_points.proofs.BoardLemmas.{few_wanted, verified_is_wanted}
 use Rattle.dap_program.specs.Boards.{after}
 use Rattle.dap_program.specs.Breakpoints.{lines_on, labels_behind, found_label}
 use Rattle.dap_lines.specs.CodeLines.{landed_at}
-use Rattle.dap_lines.specs.Conditions.{with_log, with_condition, breakpoint_at, conditional_point}
-use Rattle.dap_lines.specs.Conditions.{conditional_points}
+use Rattle.dap_lines.specs.Conditions.{log_read, with_log, stop_at, stop_with, breakpoint_at}
+use Rattle.dap_lines.specs.Conditions.{conditional_point, conditional_points}
 use Rattle.dap_lines.specs.Targets.{first_target}
 use Rattle.dap_launch.specs.declared.program.Program.{Program}
 use Rattle.dap_launch.specs.Programs.{armed_with, conditional_with}
@@ -131,13 +133,18 @@ made_at : (p : Program) (b : Board) (point : PlacedBreakpoint) (kept : Condition
 made_at p b point kept asks =
     let path = p.launch.program in
     let o = point.options in
+    let id = point.id in
+    let there : Trigger = Address asks.target.address in
     let at : Bool → Option ConditionalBreakpoint =
-    λ plain. if plain then None else breakpoint_at path o (option_and_then (first_target b) point.line) in
+    λ plain. if plain then None else breakpoint_at id path o (option_and_then (first_target b) point.line) in
+    let told : Option ConditionalBreakpoint → Option ConditionalBreakpoint =
+    option_and_then (with_log path asks.target (log_read o.log_message)) in
     ap at asks.some
-    ∙ (ap (breakpoint_at path o) asks.begins
-    ∙ (ap (with_condition path asks.target o.log_message) asks.condition_is
-    ∙ (ap (with_log path asks.target asks.condition) asks.message_is
-    ∙ ap (λ k. Some k) (sym asks.kept_is))))
+    ∙ (ap (breakpoint_at id path o) asks.begins
+    ∙ (ap (λ c. told (stop_with id there o.hit_condition c)) asks.condition_is
+    ∙ (ap (λ h. told (option_map (stop_at id there asks.condition) h)) asks.hits_are
+    ∙ (ap (λ m. with_log path asks.target m (stop_at id there asks.condition asks.hits)) asks.message_is
+    ∙ ap (λ k. Some k) (sym asks.kept_is)))))
 
 pub options_kept : (p : Program) (number : ℕ) (lines : List LineBreakpoint)
     (functions : List FunctionBreakpoint) (b : Board) (point : PlacedBreakpoint)

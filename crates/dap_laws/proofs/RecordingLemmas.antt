@@ -15,7 +15,7 @@ use Rattle.dap_launch.specs.declared.file.FileText.{FileText}
 use Rattle.dap_launch.specs.Lives.{held_ends}
 use Rattle.dap_inputs.specs.Inputs.{after_input_if, is_success}
 use Rattle.dap_session.specs.States.{SessionState, with_waits}
-use Rattle.dap_session.specs.Rewinds.{can_go_back, rewound}
+use Rattle.dap_session.specs.Rewinds.{can_go_back, held_at, rewound}
 use Rattle.dap_session.specs.Slices.{slicing}
 use Rattle.dap_session.specs.Laws.{SameParts, asks_to_load}
 use Rattle.dap_record.specs.Recordings.{Recording, RecordedState, recorded_before_requests, new_recording}
@@ -31,7 +31,7 @@ use Rattle.dap_record.proofs.RunLemmas.{same_input, same_then}
 use Rattle.dap_record.proofs.RequestLemmas.{after_made, not_begun, board_with_input}
 use Rattle.dap_record.proofs.RecordedLemmas.{look_leaves}
 use Rattle.dap_record.proofs.SliceLemmas.{arrived, kept_left}
-use Rattle.dap_record.proofs.TravelLemmas.{can_rewound}
+use Rattle.dap_record.proofs.TravelLemmas.{can_rewound, can_held}
 use Rattle.dap_laws.specs.Recorded.{after_all, IsRecordingOf, IsRecordingOfIf, IsSamePlace, IsSamePlaceIf}
 use Rattle.dap_laws.proofs.CaseLemmas.{turn_for, of_turn, of_back, of_slice}
 use Rattle.dap_laws.proofs.GoalLemmas.{found_within}
@@ -131,6 +131,17 @@ put_back r count s within of =
       told = omega (arith, within, told);
     }
 
+put_held : (r : Recording) (s : SessionState) → IsRecordingOf r s
+    → IsRecordingOf r (held_at (board_at r.start r.log r.count) s)
+put_held r s of =
+    let told = of.told in
+    record {
+      parts = record { machine = refl; past = refl; trace = refl };
+      ordered = of.ordered;
+      can = can_held (board_at r.start r.log r.count) s of.can;
+      told = told;
+    }
+
 -- ---- a look
 
 waited : (o : Option Recording) (s : SessionState) → IsRecordingOfIf o s
@@ -160,7 +171,7 @@ turned a found v of =
             arrives = λ c r count is can within.
                 put_back r count v.session within (recording_in v r is of);
             searches = λ goal c r is can stopped.
-                put_back r r.count v.session (omega arith) (recording_in v r is of);
+                put_held r v.session (recording_in v r is of);
           });
       look = λ goal on is. looked a found v is of;
       pause = λ goal on is. of;

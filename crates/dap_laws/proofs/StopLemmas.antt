@@ -36,7 +36,7 @@ use Rattle.dap_session.specs.Slices.{slice_end_in}
 use Rattle.dap_program.proofs.SliceLemmas.{told-append}
 use Rattle.dap_session.specs.States.{SessionState, is_running, wants_slice}
 use Rattle.dap_session.specs.Memory.{is_stopped}
-use Rattle.dap_session.specs.Rewinds.{is_debugged, can_go_back, rewound}
+use Rattle.dap_session.specs.Rewinds.{is_debugged, can_go_back, held_at, rewound}
 use Rattle.dap_session.specs.Slices.{slicing}
 use Rattle.dap_session.specs.Laws.{Shown, shown_after, shown_by, shown_for, ends_in, ends_told}
 use Rattle.dap_session.specs.Laws.{has_run, has_begun, is_begun, events_in, asks_to_load}
@@ -154,7 +154,7 @@ follows_stopped why was s reached can = record {
 
 -- or nothing, of one that is stopped already
 follows_held : (was : Board) (s : SessionState) → IsReached (seen s) → can_go_back s ≡ true
-    → s.board.run ≡ Stopped → Follows (seen s) [] (seen (rewound was s))
+    → s.board.run ≡ Stopped → Follows (seen s) [] (seen (held_at was s))
 follows_held was s reached can is = record {
   reached = program_fits s.settings.program s.board.run s.board.is_attached s.settings.is_configured reached
       can;

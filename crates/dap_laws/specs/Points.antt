@@ -13,8 +13,9 @@ use Rattle.dap_expr.specs.declared.expression.Expression.{Expression}
 use Rattle.dap_log.specs.declared.message.LogMessage.{LogMessage}
 use Rattle.dap_slice.specs.declared.conditions.ConditionalBreakpoint.{ConditionalBreakpoint}
 use Rattle.dap_slice.specs.declared.conditions.Trigger.TheVariants.{Address}
+use Rattle.dap_slice.specs.declared.hits.HitCondition.{HitCondition}
 use Rattle.dap_points.specs.Boards.{is_plain}
-use Rattle.dap_lines.specs.Conditions.{condition_read, log_read, log_point}
+use Rattle.dap_lines.specs.Conditions.{condition_read, hits_read, log_read, log_point, stop_at}
 use Rattle.dap_lines.specs.Targets.{first_target}
 use Rattle.dap_program.specs.Breakpoints.{lines_on, labels_behind}
 use Rattle.dap_launch.specs.declared.program.Program.{Program}
@@ -43,13 +44,10 @@ abbrev pub IsTold : ℕ → List LineBreakpoint → List FunctionBreakpoint → 
 IsTold number lines functions b point =
     Contains (lines_on b number lines ++ labels_behind b (lines_on b number lines) functions) point
 
--- the breakpoint of a program with these options there
-abbrev pub at_target : Program → GotoTarget → Option Expression → Option LogMessage → ConditionalBreakpoint
-at_target p target condition message = record {
-  trigger = Address target.address;
-  condition = condition;
-  log = option_map (log_point p.launch.program target) message;
-}
+-- a breakpoint of a program with this log message on the target's line
+abbrev pub with_message : Program → GotoTarget → Option LogMessage → ConditionalBreakpoint
+    → ConditionalBreakpoint
+with_message p target message at = record at { log = option_map (log_point p.launch.program target) message }
 
 -- it has options, whose texts are read so, and asks for this where the first statement on its line begins
 pub record AsksFor (p : Program) (b : Board) (point : PlacedBreakpoint) (kept : ConditionalBreakpoint)
@@ -60,6 +58,9 @@ pub record AsksFor (p : Program) (b : Board) (point : PlacedBreakpoint) (kept : 
   pub begins : option_and_then (first_target b) point.line ≡ Some target
   pub condition : Option Expression
   pub condition_is : condition_read point.options.condition ≡ Ok condition
+  pub hits : Option HitCondition
+  pub hits_are : hits_read point.options.hit_condition ≡ Some hits
   pub message : Option LogMessage
   pub message_is : log_read point.options.log_message ≡ Ok message
-  pub kept_is : kept ≡ at_target p target condition message
+  pub kept_is : kept
+      ≡ with_message p target message (stop_at point.id (Address target.address) condition hits)

@@ -11,9 +11,9 @@ ghost use Rattle.dap_slice.specs.declared.conditions.ConditionalBreakpoint.{Cond
 ghost use Rattle.dap_launch.specs.Programs.{armed_with, conditional_with};
 ghost use Rattle.dap_laws.specs.Points.{IsVerified, BeginsOn, IsTold, AsksFor};
 
-/// A breakpoint without a condition or a log message that an editor is told of as verified is met wherever a
-/// statement on its line begins, since the board has a breakpoint there: by a launch, by `setBreakpoints` and
-/// by `setFunctionBreakpoints`.
+/// A breakpoint without options that an editor is told of as verified is met wherever a statement on its line
+/// begins, since the board has a breakpoint there: by a launch, by `setBreakpoints` and by
+/// `setFunctionBreakpoints`.
 pub fn verified_is_met()
     ensures { (p : Program) (number : ℕ) (lines : List LineBreakpoint) (functions : List FunctionBreakpoint)
         (b : Board) (line : ℕ) → length lines ≤ 256 → IsVerified number lines functions b line
@@ -21,8 +21,8 @@ pub fn verified_is_met()
         → is_met (armed_with p number lines functions b).breakpoints b.loads address ≡ true }
 {}
 
-/// A breakpoint with a condition or a log message that an editor is told of is one of those at which the
-/// slices of a debugged run look, where the first statement on its line begins.
+/// A breakpoint with options that an editor is told of is one of those at which the slices of a debugged run
+/// look, where the first statement on its line begins, with the number that the editor is told.
 pub fn options_are_kept()
     ensures { (p : Program) (number : ℕ) (lines : List LineBreakpoint) (functions : List FunctionBreakpoint)
         (b : Board) (point : PlacedBreakpoint) (kept : ConditionalBreakpoint)

@@ -1,1 +1,3 @@
 pub mod CodeLineLemmas
+pub mod HitLemmas
+pub mod HitLawLemmas

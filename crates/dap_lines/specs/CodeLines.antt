@@ -36,7 +36,7 @@ abbrev pub landed_in : Board → List ℕ → LineBreakpoint → LandedLine
 landed_in b lines asked = record {
   line = asked.line;
   options = asked.options;
-  objection = objection b asked.options asked.is_plain;
+  objection = objection b asked.options asked.has_texts;
   landing = find (nat_le asked.line) lines;
 }
 

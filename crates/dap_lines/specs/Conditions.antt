@@ -1,5 +1,5 @@
--- The conditions and log messages of breakpoints on a program's board (Debug Adapter Protocol,
--- "SourceBreakpoint").
+-- The conditions, hit conditions and log messages of breakpoints on a program's board (Debug Adapter
+-- Protocol, "SourceBreakpoint").
 use Rattle.std.specs.Prelude.{ℕ, List, ◌++◌, Bool, Option, Some, None, Result, Ok, Err, codes, decimal}
 use Rattle.std.specs.Prelude.{option_and_then, option_map, if◌then◌else◌}
 use Rattle.std.specs.List.{filter_map}
@@ -18,13 +18,17 @@ use Rattle.dap_log.specs.declared.message.LogMessage.{LogMessage}
 use Rattle.dap_log.specs.Messages.{message_of, is_undefined_on}
 use Rattle.dap_slice.specs.declared.conditions.LogPoint.{LogPoint}
 use Rattle.dap_slice.specs.declared.conditions.ConditionalBreakpoint.{ConditionalBreakpoint}
+use Rattle.dap_slice.specs.declared.conditions.Trigger.{Trigger}
 use Rattle.dap_slice.specs.declared.conditions.Trigger.TheVariants.{Address}
+use Rattle.dap_slice.specs.declared.hits.HitCondition.{HitCondition}
+use Rattle.dap_slice.specs.declared.hits.Hits.{Hits}
 use Rattle.dap_messages.specs.declared.message.BreakpointNote.{BreakpointNote}
-use Rattle.dap_messages.specs.declared.message.BreakpointNote.TheVariants.{Wrong, NotSupported}
+use Rattle.dap_messages.specs.declared.message.BreakpointNote.TheVariants.{Wrong, NotText}
 use Rattle.dap_messages.specs.declared.message.BreakpointOptions.{BreakpointOptions}
 use Rattle.dap_messages.specs.declared.message.GotoTarget.{GotoTarget}
 use Rattle.dap_messages.specs.declared.message.PlacedBreakpoint.{PlacedBreakpoint}
 use Rattle.dap_points.specs.Boards.{is_plain}
+use Rattle.dap_lines.specs.HitConditions.{hit_condition_of}
 use Rattle.dap_lines.specs.Targets.{first_target}
 
 -- ---- what there is to object to a breakpoint's condition
@@ -64,18 +68,33 @@ abbrev pub log_objection : Board → Option Text → Option BreakpointNote
 log_objection b None = None
 log_objection b (Some text) = message_objection b (message_of text)
 
--- ---- and to both
+-- ---- and to its hit condition
+
+abbrev pub hit_fault_text : Text
+hit_fault_text = codes "hit condition: expected one like 5, >= 5 or % 5"
+
+abbrev pub hit_objection_to : Option HitCondition → Option BreakpointNote
+hit_objection_to None = Some (Wrong hit_fault_text)
+hit_objection_to (Some condition) = None
+
+abbrev pub hit_objection : Option Text → Option BreakpointNote
+hit_objection None = None
+hit_objection (Some text) = hit_objection_to (hit_condition_of text)
+
+-- ---- and to all
 
 -- the second one is made only if there is no first one
 abbrev pub first_objection : Option BreakpointNote → Option BreakpointNote → Option BreakpointNote
 first_objection None second = second
 first_objection (Some first) second = Some first
 
--- by its options, and whether it asks for nothing else
+-- by its options, and whether they are texts
 abbrev pub objection : Board → BreakpointOptions → Bool → Option BreakpointNote
-objection b o is_plain =
-    if is_plain then first_objection (condition_objection b o.condition) (log_objection b o.log_message)
-    else Some NotSupported
+objection b o has_texts =
+    if has_texts then
+    first_objection (condition_objection b o.condition)
+    (first_objection (hit_objection o.hit_condition) (log_objection b o.log_message))
+    else Some NotText
 
 -- ---- breakpoints with options
 
@@ -84,6 +103,11 @@ abbrev pub condition_read : Option Text → Result (Option Expression) Fault
 condition_read None = Ok None
 condition_read (Some text) = expression_of text >>= λ condition. Ok (Some condition)
 
+-- no hit condition is one that has no fault
+abbrev pub hits_read : Option Text → Option (Option HitCondition)
+hits_read None = Some None
+hits_read (Some text) = option_map Some (hit_condition_of text)
+
 abbrev pub log_read : Option Text → Result (Option LogMessage) LogFault
 log_read None = Ok None
 log_read (Some text) = message_of text >>= λ message. Ok (Some message)
@@ -91,30 +115,45 @@ log_read (Some text) = message_of text >>= λ message. Ok (Some message)
 abbrev pub log_point : Text → GotoTarget → LogMessage → LogPoint
 log_point path target message = record { message = message; path = path; line = target.line }
 
--- where a statement of the source with this path begins, if what is read of its options has no fault
-abbrev pub with_log : Text → GotoTarget → Option Expression → Result (Option LogMessage) LogFault
-    → Option ConditionalBreakpoint
-with_log path target condition (Ok message) = Some (record {
-  trigger = Address target.address;
+abbrev pub unhit : HitCondition → Hits
+unhit condition = record { condition = condition; count = 0 }
+
+-- one that stops the run there, and was never hit
+abbrev pub stop_at : ℕ → Trigger → Option Expression → Option HitCondition → ConditionalBreakpoint
+stop_at id trigger condition hits = record {
+  id = id;
+  trigger = trigger;
   condition = condition;
-  log = option_map (log_point path target) message;
-})
-with_log path target condition (Err fault) = None
+  hits = option_map unhit hits;
+  log = None;
+}
 
-abbrev pub with_condition : Text → GotoTarget → Option Text → Result (Option Expression) Fault
+-- if what is read of its options has no fault
+abbrev pub stop_with : ℕ → Trigger → Option Text → Result (Option Expression) Fault
     → Option ConditionalBreakpoint
-with_condition path target log (Ok condition) = with_log path target condition (log_read log)
-with_condition path target log (Err fault) = None
+stop_with id trigger hits (Ok condition) = option_map (stop_at id trigger condition) (hits_read hits)
+stop_with id trigger hits (Err fault) = None
 
-abbrev pub breakpoint_at : Text → BreakpointOptions → Option GotoTarget → Option ConditionalBreakpoint
-breakpoint_at path o None = None
-breakpoint_at path o (Some target) = with_condition path target o.log_message (condition_read o.condition)
+abbrev pub stop_by : ℕ → Trigger → BreakpointOptions → Option ConditionalBreakpoint
+stop_by id trigger o = stop_with id trigger o.hit_condition (condition_read o.condition)
+
+-- with a log message on the target's line of the source with this path
+abbrev pub with_log : Text → GotoTarget → Result (Option LogMessage) LogFault → ConditionalBreakpoint
+    → Option ConditionalBreakpoint
+with_log path target (Ok message) p = Some (record p { log = option_map (log_point path target) message })
+with_log path target (Err fault) p = None
+
+-- where a statement of that source begins
+abbrev pub breakpoint_at : ℕ → Text → BreakpointOptions → Option GotoTarget → Option ConditionalBreakpoint
+breakpoint_at id path o None = None
+breakpoint_at id path o (Some target) =
+    option_and_then (with_log path target (log_read o.log_message)) (stop_by id (Address target.address) o)
 
 -- where the first statement of its line begins, if it has options
 abbrev pub conditional_point : Text → Board → PlacedBreakpoint → Option ConditionalBreakpoint
 conditional_point path b p =
     if is_plain p.options then None
-    else breakpoint_at path p.options (option_and_then (first_target b) p.line)
+    else breakpoint_at p.id path p.options (option_and_then (first_target b) p.line)
 
 abbrev pub conditional_points : Text → Board → List PlacedBreakpoint → List ConditionalBreakpoint
 conditional_points path b points = filter_map (conditional_point path b) points

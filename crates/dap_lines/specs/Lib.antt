@@ -1,3 +1,4 @@
 pub mod Targets
+pub mod HitConditions
 pub mod Conditions
 pub mod CodeLines

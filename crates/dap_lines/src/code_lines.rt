@@ -63,7 +63,7 @@ fn landed_in(
     ensures { (b : Board) → RepresentsBoard lab.now b
         → IfOk result (λ landed. landed ≡ landed_in b lines.now.keys asked.now) }
 {
-    let objection = objection(alloc, lab, &asked.options, asked.is_plain)?;
+    let objection = objection(alloc, lab, &asked.options, asked.has_texts)?;
     let options = asked.options.clone()?;
     Ok(LandedLine {
         line: asked.line,

@@ -1,4 +1,4 @@
-//! The conditions and log messages of breakpoints.
+//! The conditions, hit conditions and log messages of breakpoints.
 ghost use Rattle.std.specs.Prelude.{◌≡◌, ◌++◌, IfOk, OnOk, Ok, Err, option_and_then, option_map};
 ghost use Rattle.std.specs.Prelude.{option_to_list};
 ghost use Rattle.asm_syntax.specs.Outcome.{LineGives};
@@ -10,10 +10,12 @@ ghost use Rattle.dap_log.specs.Messages.{LogGives, message_of};
 ghost use Rattle.dap_lines.specs.Conditions.{fault_text, value_objection, condition_objection, objection};
 ghost use Rattle.dap_lines.specs.Conditions.{expression_objection, log_fault_text, message_objection};
 ghost use Rattle.dap_lines.specs.Conditions.{log_objection, first_objection, condition_read, log_read};
+ghost use Rattle.dap_lines.specs.Conditions.{hit_objection, hits_read, unhit, stop_at, stop_by};
 ghost use Rattle.dap_lines.specs.Conditions.{log_point, with_log, conditional_point};
 ghost use Rattle.dap_lines.specs.Conditions.{conditional_points};
 ghost use Rattle.dap_lines.specs.Targets as targets;
 
+use crate::hits::hit_condition;
 use crate::target::first_target;
 use asm_expr::evaluation::ExprFault;
 use asm_syntax::fault::{FaultKind, LineFault};
@@ -23,6 +25,7 @@ use dap_log::message::{LogFault, LogMessage};
 use dap_messages::message::{BreakpointNote, BreakpointOptions, GotoTarget, PlacedBreakpoint};
 use dap_points::board::is_plain;
 use dap_slice::conditions::{ConditionalBreakpoint, ConditionalBreakpoints, LogPoint, Trigger};
+use dap_slice::hits::{HitCondition, Hits};
 use lab_core::lab::Lab;
 use std::alloc::{AllocError, Global};
 
@@ -135,53 +138,126 @@ fn log_objection(
     }
 }
 
-// ---- and to both
+// ---- and to its hit condition
 
-fn options_objection(
+fn hit_objection(
+    alloc: Global,
+    condition: &Option<Text>,
+) -> Result<Option<BreakpointNote>, AllocError>
+    ensures { IfOk result (λ note. note ≡ hit_objection condition.now) }
+{
+    let Some(text) = condition else {
+        return Ok(None);
+    };
+    if hit_condition(text.as_str()).is_some() {
+        return Ok(None);
+    }
+    let text = Text::copy_of(alloc, "hit condition: expected one like 5, >= 5 or % 5")?;
+    Ok(Some(BreakpointNote::Wrong(text)))
+}
+
+// ---- and to all
+
+// To those that aren't conditions of the board.
+fn other_objection(
     alloc: Global,
     lab: &Lab,
     options: &BreakpointOptions,
 ) -> Result<Option<BreakpointNote>, AllocError>
     ensures { (b : Board) → RepresentsBoard lab.now b → IfOk result (λ note. note
-        ≡ first_objection (condition_objection b options.now.condition)
+        ≡ first_objection (hit_objection options.now.hit_condition)
         (log_objection b options.now.log_message)) }
 {
-    match condition_objection(alloc, lab, &options.condition)? {
+    match hit_objection(alloc, &options.hit_condition)? {
         None => log_objection(alloc, lab, &options.log_message),
         Some(note) => Ok(Some(note)),
     }
 }
 
-/// What there is to object to a breakpoint with these options, which may ask for something that isn't
-/// supported.
+/// What there is to object to a breakpoint with these options, of which some may not be texts.
 pub fn objection(
     alloc: Global,
     lab: &Lab,
     options: &BreakpointOptions,
-    is_plain: bool,
+    has_texts: bool,
 ) -> Result<Option<BreakpointNote>, AllocError>
     ensures { (b : Board) → RepresentsBoard lab.now b
-        → IfOk result (λ note. note ≡ objection b options.now is_plain) }
+        → IfOk result (λ note. note ≡ objection b options.now has_texts) }
 {
-    if is_plain {
-        options_objection(alloc, lab, options)
-    } else {
-        Ok(Some(BreakpointNote::NotSupported))
+    if !has_texts {
+        return Ok(Some(BreakpointNote::NotText));
+    }
+    match condition_objection(alloc, lab, &options.condition)? {
+        None => other_objection(alloc, lab, options),
+        Some(note) => Ok(Some(note)),
     }
 }
 
 // ---- breakpoints with options
 
-/// Reads a condition, if there is one.
-pub fn condition_read(
-    alloc: Global,
-    condition: &Option<Text>,
-) -> Result<Option<Expression>, LineFault>
+fn condition_read(alloc: Global, condition: &Option<Text>) -> Result<Option<Expression>, LineFault>
     ensures { LineGives (λ condition. condition) result (condition_read condition.now) }
 {
     match condition {
         None => Ok(None),
         Some(text) => Ok(Some(Expression::parse(alloc, text.as_str())?)),
+    }
+}
+
+// A hit condition, if there is one; `None` if it can't be read.
+fn hits_read(condition: &Option<Text>) -> Option<Option<HitCondition>>
+    ensures { result ≡ hits_read condition.now }
+{
+    match condition {
+        None => Some(None),
+        Some(text) => Some(Some(hit_condition(text.as_str())?)),
+    }
+}
+
+fn unhit(condition: Option<HitCondition>) -> Option<Hits>
+    ensures { result ≡ option_map unhit condition }
+{
+    match condition {
+        None => None,
+        Some(condition) => Some(Hits {
+            condition,
+            count: 0,
+        }),
+    }
+}
+
+fn stop_with(
+    id: u32,
+    trigger: Trigger,
+    condition: Option<Expression>,
+    hits: &Option<Text>,
+) -> Option<ConditionalBreakpoint>
+    ensures { result ≡ option_map (stop_at id trigger condition) (hits_read hits.now) }
+{
+    let hits = hits_read(hits)?;
+    Some(ConditionalBreakpoint {
+        id,
+        trigger,
+        condition,
+        hits: unhit(hits),
+        log: None,
+    })
+}
+
+/// A breakpoint with this number that stops a run there, with what is read of these options, but for a log
+/// message; none if one of them has a fault.
+pub fn stop_by(
+    alloc: Global,
+    id: u32,
+    trigger: Trigger,
+    options: &BreakpointOptions,
+) -> Result<Option<ConditionalBreakpoint>, AllocError>
+    ensures { IfOk result (λ point. point ≡ stop_by id trigger options.now) }
+{
+    match condition_read(alloc, &options.condition) {
+        Ok(condition) => Ok(stop_with(id, trigger, condition, &options.hit_condition)),
+        Err(LineFault::OutOfMemory) => Err(AllocError),
+        Err(LineFault::At { .. }) => Ok(None),
     }
 }
 
@@ -211,22 +287,20 @@ fn log_point(
     }
 }
 
-// A breakpoint where the statement begins, with this condition.
+// The breakpoint with this log message too, if that has no fault.
 fn with_log(
     alloc: Global,
     target: GotoTarget,
     path: &Text,
-    condition: Option<Expression>,
     log_message: &Option<Text>,
+    point: ConditionalBreakpoint,
 ) -> Result<Option<ConditionalBreakpoint>, AllocError>
-    ensures { IfOk result (λ point. point
-        ≡ with_log path.now target condition (log_read log_message.now)) }
+    ensures { IfOk result (λ found. found ≡ with_log path.now target (log_read log_message.now) point) }
 {
     match log_read(alloc, log_message) {
         Ok(message) => Ok(Some(ConditionalBreakpoint {
-            trigger: Trigger::Address(target.address),
-            condition,
             log: log_point(target, path, message)?,
+            ..point
         })),
         Err(LogFault::OutOfMemory) => Err(AllocError),
         Err(_) => Ok(None),
@@ -235,19 +309,20 @@ fn with_log(
 
 fn breakpoint_at(
     alloc: Global,
+    id: u32,
     target: Option<GotoTarget>,
     path: &Text,
     options: &BreakpointOptions,
 ) -> Result<Option<ConditionalBreakpoint>, AllocError>
-    ensures { IfOk result (λ point. point ≡ conditions.breakpoint_at path.now options.now target) }
+    ensures { IfOk result (λ point. point
+        ≡ conditions.breakpoint_at id path.now options.now target) }
 {
     let Some(target) = target else {
         return Ok(None);
     };
-    match condition_read(alloc, &options.condition) {
-        Ok(condition) => with_log(alloc, target, path, condition, &options.log_message),
-        Err(LineFault::OutOfMemory) => Err(AllocError),
-        Err(LineFault::At { .. }) => Ok(None),
+    match stop_by(alloc, id, Trigger::Address(target.address), options)? {
+        None => Ok(None),
+        Some(point) => with_log(alloc, target, path, &options.log_message, point),
     }
 }
 
@@ -270,7 +345,13 @@ fn conditional_point(
     if is_plain(&point.options) {
         return Ok(None);
     }
-    breakpoint_at(alloc, target_on(lab, point.line), path, &point.options)
+    breakpoint_at(
+        alloc,
+        point.id,
+        target_on(lab, point.line),
+        path,
+        &point.options,
+    )
 }
 
 fn push_point(

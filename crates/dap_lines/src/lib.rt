@@ -5,5 +5,6 @@
 
 pub mod code_lines;
 pub mod conditions;
+pub mod hits;
 pub mod laws;
 pub mod target;

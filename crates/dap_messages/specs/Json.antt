@@ -75,7 +75,7 @@ note_text (note.NoCode line) = codes "no code at or below line " ++ decimal line
 note_text note.NotLaunched = codes "nothing is launched yet"
 note_text (note.OtherProgram path) = codes "the program is " ++ path
 note_text (note.Wrong why) = why
-note_text note.NotSupported = codes "hit counts are not supported"
+note_text note.NotText = codes "conditions and log messages must be texts"
 note_text note.NoLabel = codes "the program has no such label"
 note_text note.NoAddress = codes "there is no such address"
 note_text note.TooMany = codes "more than 256 breakpoints"
@@ -154,6 +154,7 @@ capabilities_json = object_of (
     can (codes "supportsExceptionInfoRequest") ∷
     can (codes "supportsFunctionBreakpoints") ∷
     can (codes "supportsGotoTargetsRequest") ∷
+    can (codes "supportsHitConditionalBreakpoints") ∷
     can (codes "supportsInstructionBreakpoints") ∷
     can (codes "supportsLoadedSourcesRequest") ∷
     can (codes "supportsLogPoints") ∷

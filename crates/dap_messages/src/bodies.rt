@@ -84,6 +84,7 @@ fn capabilities(alloc: Global) -> Result<Value, AllocError>
         .flag("supportsDataBreakpoints", true)
         .flag("supportsEvaluateForHovers", true)
         .flag("supportsFunctionBreakpoints", true)
+        .flag("supportsHitConditionalBreakpoints", true)
         .flag("supportsInstructionBreakpoints", true)
         .flag("supportsLogPoints", true)
         .flag("supportsSetVariable", true)
@@ -105,8 +106,8 @@ fn note_text(alloc: Global, note: &BreakpointNote) -> Result<Text, AllocError>
             text.push_str(path.as_str())?;
         }
         BreakpointNote::Wrong(why) => text.push_str(why.as_str())?,
-        BreakpointNote::NotSupported => {
-            text.push_str("hit counts are not supported")?;
+        BreakpointNote::NotText => {
+            text.push_str("conditions and log messages must be texts")?;
         }
         BreakpointNote::NoLabel => text.push_str("the program has no such label")?,
         BreakpointNote::NoAddress => text.push_str("there is no such address")?,

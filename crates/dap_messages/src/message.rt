@@ -14,10 +14,10 @@ pub enum BreakpointNote {
     NotLaunched,
     /// The program is the file with this path.
     OtherProgram(Text),
-    /// What is wrong with its condition or its log message.
+    /// What is wrong with its condition, its hit condition or its log message.
     Wrong(Text),
-    /// It has a hit count.
-    NotSupported,
+    /// One of these isn't a text.
+    NotText,
     NoLabel,
     NoAddress,
     TooMany,
@@ -29,6 +29,8 @@ pub enum BreakpointNote {
 pub struct BreakpointOptions {
     /// It stops the run only where this is true.
     pub condition: Option<Text>,
+    /// And only at the hits that this names.
+    pub hit_condition: Option<Text>,
     /// What is told in place of a stop.
     pub log_message: Option<Text>,
 }

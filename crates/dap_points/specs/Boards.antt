@@ -15,9 +15,9 @@ verified_lines points = filter_map verified_line points
 abbrev pub room_behind : List PlacedBreakpoint → ℕ
 room_behind lines = 256 - length (verified_lines lines)
 
--- without a condition and a log message
+-- it has no options
 abbrev pub is_plain : BreakpointOptions → Bool
-is_plain o = is_none o.condition && is_none o.log_message
+is_plain o = is_none o.condition && (is_none o.hit_condition && is_none o.log_message)
 
 -- A board stops only at breakpoints without options.
 abbrev pub plain_line : PlacedBreakpoint → Option ℕ

@@ -12,7 +12,7 @@ is_same_note (note.NoCode line) (note.NoCode line') = line == line'
 is_same_note note.NotLaunched note.NotLaunched = true
 is_same_note (note.OtherProgram path) (note.OtherProgram path') = bytes_eq path path'
 is_same_note (note.Wrong why) (note.Wrong why') = bytes_eq why why'
-is_same_note note.NotSupported note.NotSupported = true
+is_same_note note.NotText note.NotText = true
 is_same_note note.NoLabel note.NoLabel = true
 is_same_note note.NoAddress note.NoAddress = true
 is_same_note note.TooMany note.TooMany = true

@@ -2,7 +2,6 @@
 -- Protocol, "Breakpoint").
 use Rattle.std.specs.Prelude.{ℕ, ◌+◌, ◌*◌, ◌-◌, ◌==◌, List, [], ◌∷◌, Bool, true, false, if◌then◌else◌}
 use Rattle.std.specs.Prelude.{nat_lt, Option, Some, None}
-use Rattle.base_text.specs.Bytes.{Text}
 use Rattle.dap_editor.specs.declared.request.DataBreakpoint.{DataBreakpoint}
 use Rattle.dap_editor.specs.declared.request.LineBreakpoint.{LineBreakpoint}
 use Rattle.dap_editor.specs.declared.request.FunctionBreakpoint.{FunctionBreakpoint}
@@ -33,7 +32,7 @@ met_at id line options n = record {
 }
 
 abbrev pub no_options : BreakpointOptions
-no_options = record { condition = None; log_message = None }
+no_options = record { condition = None; hit_condition = None; log_message = None }
 
 -- it is never met
 abbrev pub unmet_at : ℕ → Option ℕ → BreakpointNote → PlacedBreakpoint
@@ -46,13 +45,13 @@ unmet_at id line why = record {
   note = Some why;
 }
 
--- it is met beside the lines, at this address or on data, where its condition is true
-abbrev pub met_where : ℕ → Option ℕ → Option Text → PlacedBreakpoint
-met_where id address condition = record {
+-- it is met beside the lines, at this address or on data
+abbrev pub met_where : ℕ → Option ℕ → BreakpointOptions → PlacedBreakpoint
+met_where id address options = record {
   id = id;
   line = None;
   address = address;
-  options = record { condition = condition; log_message = None };
+  options = options;
   is_verified = true;
   note = None;
 }
@@ -88,14 +87,14 @@ line_points number index (l ∷ ls) =
 
 -- ---- on lines of another source
 
--- why it isn't met, if all that it asks for is supported
+-- why it isn't met, if its options are texts
 abbrev pub why_unmet : BreakpointNote → Bool → BreakpointNote
-why_unmet why is_plain = if is_plain then why else note.NotSupported
+why_unmet why has_texts = if has_texts then why else note.NotText
 
 abbrev pub other_points : BreakpointNote → ℕ → ℕ → List LineBreakpoint → List PlacedBreakpoint
 other_points why number index [] = []
 other_points why number index (b ∷ bs) =
-    unmet_at (id_at number index) (Some b.line) (why_unmet why b.is_plain)
+    unmet_at (id_at number index) (Some b.line) (why_unmet why b.has_texts)
     ∷ other_points why number (index + 1) bs
 
 -- ---- at labels
@@ -129,7 +128,7 @@ label_points room index (l ∷ ls) =
 -- the first 16 are watched, unless there is something to object to one
 abbrev pub data_point_unless : Option BreakpointNote → ℕ → CheckedData → PlacedBreakpoint
 data_point_unless None index d =
-    if nat_lt index 16 then met_where (id_at 1025 index) None d.condition
+    if nat_lt index 16 then met_where (id_at 1025 index) None d.options
     else unmet_at (id_at 1025 index) None note.TooManyData
 data_point_unless (Some why) index d = unmet_at (id_at 1025 index) None why
 
@@ -142,13 +141,13 @@ data_points index ds = points_by data_point index ds
 -- ---- at instructions
 
 -- where PC meets it, if there is such an address
-abbrev pub at_address : ℕ → Option ℕ → Option Text → PlacedBreakpoint
-at_address id None condition = unmet_at id None note.NoAddress
-at_address id (Some address) condition = met_where id (Some address) condition
+abbrev pub at_address : ℕ → Option ℕ → BreakpointOptions → PlacedBreakpoint
+at_address id None options = unmet_at id None note.NoAddress
+at_address id (Some address) options = met_where id (Some address) options
 
 -- unless there is something to object to it
 abbrev pub instruction_point_unless : Option BreakpointNote → ℕ → CheckedInstruction → PlacedBreakpoint
-instruction_point_unless None id i = at_address id i.address i.condition
+instruction_point_unless None id i = at_address id i.address i.options
 instruction_point_unless (Some why) id i = unmet_at id None why
 
 abbrev pub instruction_point : ℕ → CheckedInstruction → PlacedBreakpoint
@@ -160,22 +159,22 @@ instruction_points index checked = points_by instruction_point index checked
 -- ---- as long as there is no program
 
 abbrev pub unlaunched_at : ℕ → Bool → PlacedBreakpoint
-unlaunched_at id is_plain = unmet_at id None (why_unmet note.NotLaunched is_plain)
+unlaunched_at id has_texts = unmet_at id None (why_unmet note.NotLaunched has_texts)
 
 abbrev pub unlaunched_label : ℕ → FunctionBreakpoint → PlacedBreakpoint
-unlaunched_label index f = unlaunched_at (id_at 0 index) f.is_plain
+unlaunched_label index f = unlaunched_at (id_at 0 index) f.has_texts
 
 abbrev pub unlaunched_labels : ℕ → List FunctionBreakpoint → List PlacedBreakpoint
 unlaunched_labels index fs = points_by unlaunched_label index fs
 
 abbrev pub unlaunched_datum : ℕ → DataBreakpoint → PlacedBreakpoint
-unlaunched_datum index d = unlaunched_at (id_at 1025 index) d.is_plain
+unlaunched_datum index d = unlaunched_at (id_at 1025 index) d.has_texts
 
 abbrev pub unlaunched_data : ℕ → List DataBreakpoint → List PlacedBreakpoint
 unlaunched_data index ds = points_by unlaunched_datum index ds
 
 abbrev pub unlaunched_instruction : ℕ → InstructionBreakpoint → PlacedBreakpoint
-unlaunched_instruction index i = unlaunched_at (id_at 1026 index) i.is_plain
+unlaunched_instruction index i = unlaunched_at (id_at 1026 index) i.has_texts
 
 abbrev pub unlaunched_instructions : ℕ → List InstructionBreakpoint → List PlacedBreakpoint
 unlaunched_instructions index breakpoints = points_by unlaunched_instruction index breakpoints

@@ -14,11 +14,11 @@ fn verified_line(point: &PlacedBreakpoint) -> Option<u32>
     if point.is_verified { point.line } else { None }
 }
 
-/// Whether a breakpoint has neither a condition nor a log message.
+/// Whether a breakpoint has no options.
 pub fn is_plain(options: &BreakpointOptions) -> bool
     ensures { result ≡ is_plain options.now }
 {
-    options.condition.is_none() && options.log_message.is_none()
+    options.condition.is_none() && options.hit_condition.is_none() && options.log_message.is_none()
 }
 
 fn plain_line(point: &PlacedBreakpoint) -> Option<u32>

@@ -16,7 +16,7 @@ pub fn is_same_note(first: &BreakpointNote, second: &BreakpointNote) -> bool
         }
         (BreakpointNote::Wrong(a), BreakpointNote::Wrong(b)) => a.as_str() == b.as_str(),
         (BreakpointNote::NotLaunched, BreakpointNote::NotLaunched)
-        | (BreakpointNote::NotSupported, BreakpointNote::NotSupported)
+        | (BreakpointNote::NotText, BreakpointNote::NotText)
         | (BreakpointNote::NoLabel, BreakpointNote::NoLabel)
         | (BreakpointNote::NoAddress, BreakpointNote::NoAddress)
         | (BreakpointNote::TooMany, BreakpointNote::TooMany)

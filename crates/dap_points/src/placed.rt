@@ -11,7 +11,6 @@ ghost use Rattle.dap_points.specs.Placed.{unlaunched_datum, unlaunched_data};
 ghost use Rattle.dap_points.specs.Placed.{unlaunched_instruction, unlaunched_instructions};
 
 use base_text::sequence::Sequence;
-use base_text::text::Text;
 use dap_editor::request::{
     DataBreakpoint, FunctionBreakpoint, InstructionBreakpoint, LineBreakpoint,
 };
@@ -40,7 +39,7 @@ pub struct FoundLabel {
 /// A breakpoint on data.
 #[derive(Drop)]
 pub struct CheckedData {
-    pub condition: Option<Text>,
+    pub options: BreakpointOptions,
     /// What there is to object to it.
     pub objection: Option<BreakpointNote>,
 }
@@ -49,7 +48,7 @@ pub struct CheckedData {
 #[derive(Drop)]
 pub struct CheckedInstruction {
     pub address: Option<u16>,
-    pub condition: Option<Text>,
+    pub options: BreakpointOptions,
     /// What there is to object to it.
     pub objection: Option<BreakpointNote>,
 }
@@ -69,6 +68,7 @@ pub const MOST_DATA: usize = 16;
 /// Of a breakpoint that is never met.
 const NO_OPTIONS: BreakpointOptions = BreakpointOptions {
     condition: None,
+    hit_condition: None,
     log_message: None,
 };
 
@@ -166,13 +166,13 @@ pub fn line_points(
     Ok(points)
 }
 
-fn why_unmet(why: &BreakpointNote, is_plain: bool) -> Result<BreakpointNote, AllocError>
-    ensures { IfOk result (λ note. note ≡ why_unmet why.now is_plain) }
+fn why_unmet(why: &BreakpointNote, has_texts: bool) -> Result<BreakpointNote, AllocError>
+    ensures { IfOk result (λ note. note ≡ why_unmet why.now has_texts) }
 {
-    if is_plain {
+    if has_texts {
         Ok(why.clone()?)
     } else {
-        Ok(BreakpointNote::NotSupported)
+        Ok(BreakpointNote::NotText)
     }
 }
 
@@ -192,7 +192,7 @@ pub fn other_points(
     let mut index = 0;
     let mut left = lines;
     while let Some((line, later)) = left.split_first() {
-        let note = why_unmet(why, line.is_plain)?;
+        let note = why_unmet(why, line.has_texts)?;
         points.push(unmet_at(id_at(number, index), Some(line.line), note))?;
         index += 1;
         left = later;
@@ -260,17 +260,14 @@ pub fn label_points(
 // ---- breakpoints beside the lines
 
 // A breakpoint that is met at this address, or on data.
-fn met_where(id: u32, address: Option<u16>, condition: Option<Text>) -> PlacedBreakpoint
-    ensures { result ≡ met_where id address condition }
+fn met_where(id: u32, address: Option<u16>, options: BreakpointOptions) -> PlacedBreakpoint
+    ensures { result ≡ met_where id address options }
 {
     PlacedBreakpoint {
         id,
         line: None,
         address,
-        options: BreakpointOptions {
-            condition,
-            log_message: None,
-        },
+        options,
         is_verified: true,
         note: None,
     }
@@ -311,7 +308,7 @@ impl Listed for CheckedData {
         let id = id_at(DATA_NUMBER, index);
         match &self.objection {
             Some(why) => Ok(unmet_at(id, None, why.clone()?)),
-            None if index < MOST_DATA => Ok(met_where(id, None, self.condition.clone()?)),
+            None if index < MOST_DATA => Ok(met_where(id, None, self.options.clone()?)),
             None => Ok(unmet_at(id, None, BreakpointNote::TooManyData)),
         }
     }
@@ -336,7 +333,7 @@ impl Listed for CheckedInstruction {
         match (&self.objection, self.address) {
             (Some(why), _) => Ok(unmet_at(id, None, why.clone()?)),
             (None, None) => Ok(unmet_at(id, None, BreakpointNote::NoAddress)),
-            (None, Some(address)) => Ok(met_where(id, Some(address), self.condition.clone()?)),
+            (None, Some(address)) => Ok(met_where(id, Some(address), self.options.clone()?)),
         }
     }
 }
@@ -354,10 +351,10 @@ pub fn instruction_points(
 
 // ---- as long as there is no program
 
-fn unlaunched_at(id: u32, is_plain: bool) -> Result<PlacedBreakpoint, AllocError>
-    ensures { IfOk result (λ point. point ≡ unlaunched_at id is_plain) }
+fn unlaunched_at(id: u32, has_texts: bool) -> Result<PlacedBreakpoint, AllocError>
+    ensures { IfOk result (λ point. point ≡ unlaunched_at id has_texts) }
 {
-    let why = why_unmet(&BreakpointNote::NotLaunched, is_plain)?;
+    let why = why_unmet(&BreakpointNote::NotLaunched, has_texts)?;
     Ok(unmet_at(id, None, why))
 }
 
@@ -365,7 +362,7 @@ impl Listed for FunctionBreakpoint {
     ghost point = { unlaunched_label };
 
     fn point(&self, index: usize) -> Result<PlacedBreakpoint, AllocError> {
-        unlaunched_at(id_at(LABEL_NUMBER, index), self.is_plain)
+        unlaunched_at(id_at(LABEL_NUMBER, index), self.has_texts)
     }
 }
 
@@ -384,7 +381,7 @@ impl Listed for DataBreakpoint {
     ghost point = { unlaunched_datum };
 
     fn point(&self, index: usize) -> Result<PlacedBreakpoint, AllocError> {
-        unlaunched_at(id_at(DATA_NUMBER, index), self.is_plain)
+        unlaunched_at(id_at(DATA_NUMBER, index), self.has_texts)
     }
 }
 
@@ -403,7 +400,7 @@ impl Listed for InstructionBreakpoint {
     ghost point = { unlaunched_instruction };
 
     fn point(&self, index: usize) -> Result<PlacedBreakpoint, AllocError> {
-        unlaunched_at(id_at(INSTRUCTION_NUMBER, index), self.is_plain)
+        unlaunched_at(id_at(INSTRUCTION_NUMBER, index), self.has_texts)
     }
 }
 

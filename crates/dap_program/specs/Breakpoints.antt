@@ -25,7 +25,7 @@ abbrev pub found_label : Board → FunctionBreakpoint → FoundLabel
 found_label b f = record {
   line = label_line b f.name;
   options = f.options;
-  objection = objection b f.options f.is_plain;
+  objection = objection b f.options f.has_texts;
 }
 
 -- at labels, beside the breakpoints on lines

@@ -29,6 +29,7 @@ use Rattle.dap_messages.specs.declared.message.OutputCategory.TheVariants as cat
 use Rattle.dap_slice.specs.declared.conditions.ConditionalBreakpoint.{ConditionalBreakpoint}
 use Rattle.dap_slice.specs.declared.logs.LogLine.{LogLine}
 use Rattle.dap_slice.specs.Logs.{logs_before}
+use Rattle.dap_slice.specs.Counts.{points_after}
 use Rattle.dap_slice.specs.SliceEnds.{slice_end_within, change_after}
 use Rattle.dap_editor.specs.declared.request.ExceptionFilters.{ExceptionFilters}
 use Rattle.dap_program.specs.declared.slice.Slice.{Slice}
@@ -120,6 +121,9 @@ pub record SliceContext : Type 0 where
   pub held : ExceptionFilters
   pub has_asked : Bool
 
+abbrev pub slice_context : List ConditionalBreakpoint → ExceptionFilters → Bool → SliceContext
+slice_context points held has_asked = record { points = points; held = held; has_asked = has_asked }
+
 -- the events of a slice from a board that ends there and so, behind the log messages with which it begins
 abbrev pub events_to : ℕ × SliceOutcome → SliceContext → Board → List EditorEvent
 events_to end c b =
@@ -142,3 +146,10 @@ abbrev pub MakesSliceIn : SliceContext → ℕ → LabState → Result Slice All
 MakesSliceIn c n old result new =
     (b : Board) → RepresentsBoard old b → b.run ≡ Running
     → IfOk result (λ slice. IsSliceOf (slice_end_within c.points n b) c b slice new)
+
+-- and the breakpoints have its hits
+abbrev pub CountsSlice : List ConditionalBreakpoint → LabState → Result Slice AllocError
+    → List ConditionalBreakpoint → Type 0
+CountsSlice old lab result new =
+    (b : Board) → RepresentsBoard lab b → b.run ≡ Running
+    → IfOk result (λ slice. new ≡ points_after old slice.executed b)

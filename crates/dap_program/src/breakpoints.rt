@@ -54,7 +54,7 @@ fn find_label(
         → IfOk result (λ label. label ≡ found_label b function.now) }
 {
     let line = label_line(alloc, lab, function.name.as_str())?;
-    let objection = objection(alloc, lab, &function.options, function.is_plain)?;
+    let objection = objection(alloc, lab, &function.options, function.has_texts)?;
     let options = function.options.clone()?;
     Ok(FoundLabel {
         line,

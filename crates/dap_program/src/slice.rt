@@ -12,7 +12,7 @@ ghost use Rattle.dap_program.specs.Slices as slices;
 ghost use Rattle.dap_program.specs.Slices.{console_events, line_question, line_events, run_end_events};
 ghost use Rattle.dap_program.specs.Slices.{undefined_line, exception_events, policy_events};
 ghost use Rattle.dap_program.specs.Slices.{stop_of, outcome_events, run_events, MakesSliceIn, is_vain_read};
-ghost use Rattle.dap_program.specs.Slices.{polls_in_vain, asks_line};
+ghost use Rattle.dap_program.specs.Slices.{polls_in_vain, asks_line, slice_context, CountsSlice};
 ghost use Rattle.dap_program.specs.Kits.{IsSliceKit, HasRoomBehind};
 ghost use Rattle.dap_slice.specs.SliceEnds.{slice_end_within};
 
@@ -309,9 +309,10 @@ fn told_after(logs: Vec<Message>, executed: u16, messages: Sequence<Message>) ->
 }
 
 /// Makes at most `limit` steps of the run on a board, from 1 to 4,096, and returns the messages about them.
-/// It ends where the run comes to one of `points`, and tells first what those at PC tell. `held` says at
-/// which ends the run is held, `has_asked` whether the program asked for a line since the last one was typed.
-/// If no run goes on, it fails like out of memory. If it fails, the board stays as it was.
+/// It ends where the run comes to one of `points`, and tells first what those at PC tell; they count its
+/// hits. `held` says at which ends the run is held, `has_asked` whether the program asked for a line since the
+/// last one was typed. If no run goes on, it fails like out of memory. If it fails, the board and the counts
+/// stay as they were.
 pub fn make_slice(
     alloc: Global,
     lab: &mut Lab,
@@ -321,9 +322,9 @@ pub fn make_slice(
     has_asked: bool,
 ) -> Result<Slice, AllocError>
     requires { (1 ≤ limit) × (limit ≤ 4096) × RepresentsSomeBoard lab.old }
-    ensures made { MakesSliceIn (record { points = points.old; held = held; has_asked = has_asked }) limit
-        lab.old result lab.new }
-    ensures rest { (points.new ≡ points.old) × OnErr result (lab.new ≡ lab.old) }
+    ensures made { MakesSliceIn (slice_context points.old held has_asked) limit lab.old result lab.new }
+    ensures hits { CountsSlice points.old lab.old result points.new }
+    ensures err { OnErr result ((points.new ≡ points.old) × (lab.new ≡ lab.old)) }
 {
     let lines = points.logs(alloc, lab)?;
     let logs = log_messages(alloc, lines)?;

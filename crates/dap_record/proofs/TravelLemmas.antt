@@ -21,7 +21,7 @@ use Rattle.dap_session.specs.States.{SessionState}
 use Rattle.dap_session.specs.Memory.{is_stopped}
 use Rattle.dap_session.specs.Represents as sessions
 use Rattle.dap_session.specs.Represents.{SessionFields, RepresentsSession}
-use Rattle.dap_session.specs.Rewinds.{can_go_back, is_debugged, rewound, BeginsSearch, target_for}
+use Rattle.dap_session.specs.Rewinds.{can_go_back, is_debugged, held_at, rewound, BeginsSearch, target_for}
 use Rattle.dap_session.specs.Laws.{has_run, has_begun, is_begun}
 use Rattle.dap_record.specs.declared.back.Back.{Back}
 use Rattle.dap_record.specs.declared.back.Back.TheVariants as back
@@ -60,6 +60,9 @@ can_released (Some p) run can =
 -- it can still go back there
 pub can_rewound : (was : Board) (s : SessionState) → can_go_back s ≡ true → can_go_back (rewound was s) ≡ true
 can_rewound was s can = can_released s.settings.program s.board.run can
+
+pub can_held : (was : Board) (s : SessionState) → can_go_back s ≡ true → can_go_back (held_at was s) ≡ true
+can_held was s can = can_released s.settings.program s.board.run can
 
 -- the recording of a run that was put to this count
 pub recorded_at : (v v' : RecordingFields) (r : Recording) (s : SessionState) (count : ℕ)
@@ -146,7 +149,7 @@ departs c goal r s v log count search session body is recording log_is count_is 
                   count = recording.count;
                   told = recording.told;
                   parts = record { machine = refl; past = refl; trace = refl };
-                  can = can_rewound (board_at r.start r.log r.count) s recording.can;
+                  can = can_held (board_at r.start r.log r.count) s recording.can;
                 };
             search =
                 record {

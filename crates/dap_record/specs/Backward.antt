@@ -27,7 +27,7 @@ use Rattle.dap_session.specs.States.{SessionState}
 use Rattle.dap_session.specs.Turns.{Replied, refusing, succeeding}
 use Rattle.dap_inputs.specs.Prompt.{behind}
 use Rattle.dap_session.specs.Memory.{is_stopped}
-use Rattle.dap_session.specs.Rewinds.{can_go_back, rewound, target_for}
+use Rattle.dap_session.specs.Rewinds.{can_go_back, held_at, rewound, target_for}
 use Rattle.dap_record.specs.declared.back.Back.{Back}
 use Rattle.dap_record.specs.declared.back.Back.TheVariants as back
 use Rattle.dap_record.specs.Recordings.{Recording, RecordedState}
@@ -129,7 +129,7 @@ arriving c r s count = record {
 -- a search begins, and the run is held where it is until that has found its goal
 abbrev pub searching_for : Goal → Back → Recording → SessionState → RecordedReply
 searching_for goal c r s = record {
-  reply = succeeding (body_for c) Nothing (rewound (board_at r.start r.log r.count) s);
+  reply = succeeding (body_for c) Nothing (held_at (board_at r.start r.log r.count) s);
   recording = Some r;
   search = Some goal;
 }

@@ -13,7 +13,7 @@ use Rattle.dap_history.specs.Searches.{SearchState, Target, IsSearchOf, Searched
 use Rattle.dap_session.specs.States.{SessionState, with_board}
 use Rattle.dap_session.specs.Represents.{SessionFields, RepresentsSession}
 use Rattle.dap_session.specs.Rewinds.{IsRunAt, BeginsSearch, SearchedFurther, after_release, rewound}
-use Rattle.dap_session.specs.Rewinds.{target_for}
+use Rattle.dap_session.specs.Rewinds.{target_for, held_at, recounting}
 use Rattle.dap_session.specs.declared.settings.SessionSettings.{SessionSettings}
 
 -- ---- moments that are saved
@@ -60,10 +60,19 @@ board_in v s lab same represents =
 released_at : (was : Board) (s : SessionState) (new : SessionFields) (lab : LabState)
     (settings : SessionSettings) → new ≡ record { lab = lab; settings = after_release settings }
     → settings ≡ s.settings → RepresentsBoard lab (after_rewind was s.board)
-    → RepresentsSession new (rewound was s)
+    → RepresentsSession new (held_at was s)
 released_at was s new lab settings is same board =
-    subst (λ (v : SessionFields). RepresentsSession v (rewound was s)) (sym is)
+    subst (λ (v : SessionFields). RepresentsSession v (held_at was s)) (sym is)
     (record { board = board; settings = ap after_release same })
+
+-- where hits are counted from now on
+pub rewound_at : (was : Board) (s : SessionState) (new : SessionFields) (lab : LabState)
+    (settings : SessionSettings) → new ≡ record { lab = lab; settings = after_release (recounting settings) }
+    → settings ≡ s.settings → RepresentsBoard lab (after_rewind was s.board)
+    → RepresentsSession new (rewound was s)
+rewound_at was s new lab settings is same board =
+    subst (λ (v : SessionFields). RepresentsSession v (rewound was s)) (sym is)
+    (record { board = board; settings = ap (λ t. after_release (recounting t)) same })
 
 -- what it looks for with these settings
 abbrev pub target_in : Goal → SessionSettings → Target
@@ -83,11 +92,11 @@ begins_so goal start log count s search new lab settings is same searched = reco
 
 pub found_so : (goal : Goal) (start : Board) (log : List Recorded) (n m : ℕ) (s : SessionState)
     (search : SearchState) (new : SessionFields) (lab : LabState) (settings : SessionSettings)
-    → new ≡ record { lab = lab; settings = after_release settings } → settings ≡ s.settings
+    → new ≡ record { lab = lab; settings = after_release (recounting settings) } → settings ≡ s.settings
     → SearchedOn start log s.board (target_for goal s) n (Some m) search lab
     → SearchedFurther goal start log n s (Some m) search new
 found_so goal start log n m s search new lab settings is same searched =
-    (searched.0, released_at (board_at start log m) s new lab settings is same searched.1)
+    (searched.0, rewound_at (board_at start log m) s new lab settings is same searched.1)
 
 pub goes_on_so : (goal : Goal) (start : Board) (log : List Recorded) (n : ℕ) (s : SessionState)
     (search : SearchState) (new : SessionFields) (lab : LabState) (settings : SessionSettings)

@@ -60,7 +60,7 @@ use Rattle.dap_session.specs.Requests.{resuming_from, explaining, set_initialize
 use Rattle.dap_session.specs.Requests.{objection, asking}
 use Rattle.dap_session.specs.Requests.{asking_unless, turn}
 use Rattle.dap_session.specs.Slices.{Input, request, slice, settings_after, slicing, slice_told, step}
-use Rattle.dap_session.specs.Slices.{play_all, with_question}
+use Rattle.dap_session.specs.Slices.{play_all, with_question, with_hits}
 use Rattle.dap_session.specs.Laws.{Shown, stopped, unstopped, shown_after, shown_by, shown_for, ends_told}
 use Rattle.dap_session.specs.Laws.{ends_between, has_run, has_begun, events_in, asks_to_load, loads}
 use Rattle.dap_session.proofs.BoardLemmas.{SameRun, kept_without, kept_dump, kept_poke, kept_press}
@@ -331,7 +331,7 @@ pub follows_slicing : (p : ℕ × SliceOutcome) (s : SessionState) → IsReached
 follows_slicing (k, ending) s reached has =
     let written = filter_map written_to_console (traffic_of k s.board) in
     let asks = asks_line s.settings.has_asked k (traffic_of k s.board) in
-    let noted : SessionState = record s { settings = with_question asks s.settings } in
+    let noted : SessionState = record s { settings = with_question asks (with_hits k s) } in
     let change = change_after s.settings.conditional (k, ending) s.board in
     let last = outcome_events (held_in s) change ending in
     let logs = logs_before s.settings.conditional k s.board in

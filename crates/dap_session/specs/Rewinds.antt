@@ -7,6 +7,7 @@ use Rattle.dap_history.specs.Histories.{HistoryState, IsHistoryOf, KeepsHistory}
 use Rattle.dap_history.specs.Searches.{SearchState, Target, IsSearchOf, goal_below}
 use Rattle.dap_history.specs.Runs.{board_at, after_rewind}
 use Rattle.dap_launch.specs.declared.program.Program.{Program}
+use Rattle.dap_slice.specs.Counts.{without_hits}
 use Rattle.dap_launch.specs.Lives.{released_program}
 use Rattle.dap_session.specs.States.{SessionState, with_board}
 use Rattle.dap_session.specs.Turns.{Turn}
@@ -33,9 +34,17 @@ pub record RunLasts (s : SessionState) (t : Turn) : Type 0 where
 abbrev pub after_release : SessionSettings → SessionSettings
 after_release t = record t { program = option_map released_program t.program; waits = false }
 
--- the run is that of this board, and stopped there
+-- the run is that of this board, and held there
+abbrev pub held_at : Board → SessionState → SessionState
+held_at was s = record { board = after_rewind was s.board; settings = after_release s.settings }
+
+-- hits are counted from now on
+abbrev pub recounting : SessionSettings → SessionSettings
+recounting t = record t { conditional = without_hits t.conditional }
+
+-- the run is put to this board, where breakpoints have no hits yet
 abbrev pub rewound : Board → SessionState → SessionState
-rewound was s = record { board = after_rewind was s.board; settings = after_release s.settings }
+rewound was s = record { board = after_rewind was s.board; settings = after_release (recounting s.settings) }
 
 -- The session's run is the one of this history after so many steps: machine, devices and trace are the same.
 pub record IsRunAt (start : Board) (h : HistoryState) (count : ℕ) (v : SessionFields) : Type 0 where
@@ -70,7 +79,7 @@ pub record IsSearched (h : HistoryState) (search : SearchState) (v : SessionFiel
 pub record BeginsSearch (goal : Goal) (start : Board) (log : List Recorded) (count : ℕ) (s : SessionState)
     (v : SearchState) (new : SessionFields) : Type 0 where
   pub search : IsSearchOf start log s.board (target_for goal s) count v
-  pub represents : RepresentsSession new (rewound (board_at start log count) s)
+  pub represents : RepresentsSession new (held_at (board_at start log count) s)
 
 -- A search went on: the run is held where it began, or it is put to the count that was found.
 abbrev pub SearchedFurther : Goal → Board → List Recorded → ℕ → SessionState → Option ℕ → SearchState

@@ -9,6 +9,7 @@ use Rattle.dap_editor.specs.declared.request.EditorRequest.{EditorRequest}
 use Rattle.dap_program.specs.declared.messages.RequestId.{RequestId}
 use Rattle.dap_program.specs.Messages.{as_messages, turn_messages}
 use Rattle.lab_core.specs.Board.{Board}
+use Rattle.dap_slice.specs.Counts.{points_after}
 use Rattle.dap_slice.specs.SliceEnds.{slice_end_within, after_slice_within}
 use Rattle.dap_program.specs.Ends.{held_at_end}
 use Rattle.dap_program.specs.Slices.{SliceContext, events_to, asks_line}
@@ -33,6 +34,10 @@ settings_after outcome.Waiting t = record t { waits = true }
 settings_after (outcome.Stop reason) t = t
 settings_after (outcome.End how) t = record t { program = option_map (ended_program t.filters how) t.program }
 
+-- the breakpoints have the hits of its k steps
+abbrev pub with_hits : ℕ → SessionState → SessionSettings
+with_hits k s = record s.settings { conditional = points_after s.settings.conditional k s.board }
+
 -- the program may have asked for a line
 abbrev pub with_question : Bool → SessionSettings → SessionSettings
 with_question asks t = record t { has_asked = t.has_asked || asks }
@@ -52,7 +57,7 @@ slicing (k, ending) s =
       messages = as_messages (events_to (k, ending) c s.board);
       state = record {
         board = held_at_end c.held ending (left_by ending (after_steps k s.board));
-        settings = settings_after ending (with_question asks s.settings);
+        settings = settings_after ending (with_question asks (with_hits k s));
       };
     }
 

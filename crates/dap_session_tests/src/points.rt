@@ -21,11 +21,12 @@ setBreakpoints {"source":{"path":"other.asm"},"breakpoints":[{"line":5}]}
   3 "setBreakpoints" true {"breakpoints":[
     {"id":513,"line":5,"message":"the program is count.asm","verified":false}]}
 setFunctionBreakpoints {"breakpoints":[{"name":"second"},{"name":"START"},
-    {"name":"FIRST","hitCondition":"2"}]}
+    {"name":"FIRST","hitCondition":"2"},{"name":"FIRST","hitCondition":2}]}
   4 "setFunctionBreakpoints" true {"breakpoints":[
     {"id":1,"line":5,"verified":true},
     {"id":2,"message":"the program has no such label","verified":false},
-    {"id":3,"line":3,"message":"hit counts are not supported","verified":false}]}
+    {"id":3,"line":3,"verified":true},
+    {"id":4,"line":3,"message":"conditions and log messages must be texts","verified":false}]}
 breakpointLocations {"source":{"path":"count.asm"},"line":0,"endLine":6}
   5 "breakpointLocations" true {"breakpoints":[{"line":3},{"line":4},{"line":5},{"line":6}]}
 breakpointLocations {"source":{"path":"other.asm"},"line":3}
@@ -40,9 +41,10 @@ restart < loop
     "verified":false},"reason":"changed"}
   "breakpoint" {"breakpoint":{"id":1,"message":"the program has no such label","verified":false},
     "reason":"changed"}
-  "breakpoint" {"breakpoint":{"id":3,
-    "message":"hit counts are not supported","verified":false},
+  "breakpoint" {"breakpoint":{"id":3,"message":"the program has no such label","verified":false},
     "reason":"changed"}
+  "breakpoint" {"breakpoint":{"id":4,
+    "message":"conditions and log messages must be texts","verified":false},"reason":"changed"}
 configurationDone
   8 "configurationDone" true {}
 slice
@@ -239,7 +241,7 @@ setDataBreakpoints {"breakpoints":[{"dataId":"B","condition":"B LT 3"},{"dataId"
     {"id":262402,"verified":true},
     {"id":262403,"message":"no register or bytes: PC","verified":false},
     {"id":262404,"message":"only writes are watched","verified":false},
-    {"id":262405,"message":"hit counts are not supported","verified":false},
+    {"id":262405,"verified":true},
     {"id":262406,"message":"condition, column 6: Name","verified":false}]}
 continue {"threadId":1}
   11 "continue" true {"allThreadsContinued":true}
@@ -252,30 +254,31 @@ continue {"threadId":1}
   14 "continue" true {"allThreadsContinued":true}
   "continued" {"allThreadsContinued":true,"threadId":1}
 slice
+slice
   "output" {"category":"stdout","output":"."}
   "stopped" {"allThreadsStopped":true,"description":"B: 02H, was 03H, by 0108",
     "reason":"data breakpoint","threadId":1}
 next {"threadId":1}
-  16 "next" true {}
+  17 "next" true {}
   "continued" {"allThreadsContinued":true,"threadId":1}
 slice
   "stopped" {"allThreadsStopped":true,"reason":"step","threadId":1}
 next {"threadId":1}
-  18 "next" true {}
+  19 "next" true {}
   "continued" {"allThreadsContinued":true,"threadId":1}
 slice
   "output" {"category":"stdout","output":"."}
   "stopped" {"allThreadsStopped":true,"reason":"step","threadId":1}
 next {"threadId":1}
-  20 "next" true {}
+  21 "next" true {}
   "continued" {"allThreadsContinued":true,"threadId":1}
 slice
   "stopped" {"allThreadsStopped":true,"description":"B: 01H, was 02H, by 0108",
     "reason":"data breakpoint","threadId":1}
 setDataBreakpoints {"breakpoints":[]}
-  22 "setDataBreakpoints" true {"breakpoints":[]}
+  23 "setDataBreakpoints" true {"breakpoints":[]}
 continue {"threadId":1}
-  23 "continue" true {"allThreadsContinued":true}
+  24 "continue" true {"allThreadsContinued":true}
   "continued" {"allThreadsContinued":true,"threadId":1}
 slice
   "output" {"category":"stdout","output":"."}
@@ -283,7 +286,8 @@ slice
   "terminated"
 "#;
 
-/// Breakpoints at instructions: before a launch, those that can't be, and one with a condition.
+/// Breakpoints at instructions: before a launch, those that can't be, one with a condition, and one that
+/// stops at its second hit.
 const INSTRUCTIONS: &str = r#"
 initialize
   0 "initialize" true CAPABILITIES
@@ -314,23 +318,127 @@ setInstructionBreakpoints {"breakpoints":[
     {"id":262657,"instructionReference":"0x0108","verified":true},
     {"id":262658,"message":"there is no such address","verified":false},
     {"id":262659,"message":"there is no such address","verified":false},
-    {"id":262660,"message":"hit counts are not supported","verified":false},
+    {"id":262660,"instructionReference":"0x0109","verified":true},
     {"id":262661,"message":"condition, column 6: Name","verified":false}]}
 continue {"threadId":1}
   7 "continue" true {"allThreadsContinued":true}
   "continued" {"allThreadsContinued":true,"threadId":1}
 slice
+slice
   "output" {"category":"stdout","output":"."}
+slice
+  "stopped" {"allThreadsStopped":true,"reason":"breakpoint","threadId":1}
+continue {"threadId":1}
+  11 "continue" true {"allThreadsContinued":true}
+  "continued" {"allThreadsContinued":true,"threadId":1}
 slice
   "output" {"category":"stdout","output":"."}
   "stopped" {"allThreadsStopped":true,"reason":"breakpoint","threadId":1}
 evaluate {"expression":"B","context":"watch"}
-  10 "evaluate" true {"result":"001H","variablesReference":0}
+  13 "evaluate" true {"result":"001H","variablesReference":0}
 restart < counts
-  11 "restart" true {}
+  14 "restart" true {}
   "stopped" {"allThreadsStopped":true,"reason":"entry","threadId":1}
 setInstructionBreakpoints {"breakpoints":[]}
-  12 "setInstructionBreakpoints" true {"breakpoints":[]}
+  15 "setInstructionBreakpoints" true {"breakpoints":[]}
+"#;
+
+/// Hit conditions: a line stopped at its third hit, every second one told at a label, and counts that begin
+/// anew at a restart and where breakpoints are set; those that can't be, data, and a `next` over a hit that
+/// isn't asked for.
+const HITS: &str = r#"
+initialize
+  0 "initialize" true CAPABILITIES
+launch {"program":"count.asm"} < counts
+  1 "launch" true {}
+  "initialized"
+setBreakpoints {"source":{"path":"count.asm"},"breakpoints":[{"line":5,"hitCondition":"3"}]}
+  2 "setBreakpoints" true {"breakpoints":[{"id":257,"line":5,"verified":true}]}
+setFunctionBreakpoints {"breakpoints":[
+    {"name":"SAY","hitCondition":" %2 ","logMessage":"B is {B}"}]}
+  3 "setFunctionBreakpoints" true {"breakpoints":[{"id":1,"line":8,"verified":true}]}
+configurationDone
+  4 "configurationDone" true {}
+slice
+slice
+  "output" {"category":"stdout","output":"."}
+slice
+slice
+  "output" {"category":"console","column":1,"line":8,"output":"B is 2\n",
+    "source":{"name":"count.asm","path":"count.asm"}}
+  "output" {"category":"stdout","output":"."}
+slice
+slice
+  "output" {"category":"stdout","output":"."}
+  "stopped" {"allThreadsStopped":true,"reason":"breakpoint","threadId":1}
+evaluate {"expression":"B","context":"hover"}
+  11 "evaluate" true {"result":"001H","variablesReference":0}
+restart < counts
+  12 "restart" true {}
+  "continued" {"allThreadsContinued":true,"threadId":1}
+slice
+slice
+  "output" {"category":"stdout","output":"."}
+slice
+setBreakpoints {"source":{"path":"count.asm"},"breakpoints":[{"line":5,"hitCondition":">= 2"}]}
+  16 "setBreakpoints" true {"breakpoints":[{"id":257,"line":5,"verified":true}]}
+slice
+  "output" {"category":"stdout","output":"."}
+slice
+slice
+  "output" {"category":"stdout","output":"."}
+  "stopped" {"allThreadsStopped":true,"reason":"breakpoint","threadId":1}
+setBreakpoints {"source":{"path":"count.asm"},"breakpoints":[{"line":5,"hitCondition":"< 1"},
+    {"line":5,"hitCondition":"> 4294967295"},{"line":5,"hitCondition":"%0"},
+    {"line":5,"hitCondition":"5 5"},{"line":5,"hitCondition":" "},{"line":5,"hitCondition":""},
+    {"line":5,"hitCondition":null},{"line":5,"hitCondition":[5]},
+    {"line":5,"condition":"B EQ EQ","hitCondition":"x","logMessage":"{"},
+    {"line":5,"hitCondition":"x","logMessage":"{"},{"line":5,"hitCondition":"<= 4294967295"}]}
+  20 "setBreakpoints" true {"breakpoints":[
+    {"id":257,"line":5,"message":"hit condition: expected one like 5, >= 5 or % 5","verified":false},
+    {"id":258,"line":5,"message":"hit condition: expected one like 5, >= 5 or % 5","verified":false},
+    {"id":259,"line":5,"message":"hit condition: expected one like 5, >= 5 or % 5","verified":false},
+    {"id":260,"line":5,"message":"hit condition: expected one like 5, >= 5 or % 5","verified":false},
+    {"id":261,"line":5,"message":"hit condition: expected one like 5, >= 5 or % 5","verified":false},
+    {"id":262,"line":5,"verified":true},
+    {"id":263,"line":5,"verified":true},
+    {"id":264,"line":5,"message":"conditions and log messages must be texts","verified":false},
+    {"id":265,"line":5,"message":"condition, column 6: Name","verified":false},
+    {"id":266,"line":5,"message":"hit condition: expected one like 5, >= 5 or % 5","verified":false},
+    {"id":267,"line":5,"verified":true}]}
+setBreakpoints {"source":{"path":"count.asm"},"breakpoints":[]}
+  21 "setBreakpoints" true {"breakpoints":[]}
+setFunctionBreakpoints {"breakpoints":[{"name":"SAY","hitCondition":"4"},{"name":"MAIN"}]}
+  22 "setFunctionBreakpoints" true {"breakpoints":[{"id":1,"line":8,"verified":true},
+    {"id":2,"line":2,"verified":true}]}
+setDataBreakpoints {"breakpoints":[{"dataId":"BC","condition":"B","hitCondition":"== 2"}]}
+  23 "setDataBreakpoints" true {"breakpoints":[{"id":262401,"verified":true}]}
+restart < counts
+  24 "restart" true {}
+  "continued" {"allThreadsContinued":true,"threadId":1}
+slice
+  "stopped" {"allThreadsStopped":true,"reason":"breakpoint","threadId":1}
+continue
+  26 "continue" true {"allThreadsContinued":true}
+  "continued" {"allThreadsContinued":true,"threadId":1}
+slice
+slice
+slice
+  "output" {"category":"stdout","output":"."}
+  "stopped" {"allThreadsStopped":true,"description":"B: 02H, was 03H, by 0108",
+    "reason":"data breakpoint","threadId":1}
+next {"threadId":1}
+  30 "next" true {}
+  "continued" {"allThreadsContinued":true,"threadId":1}
+slice
+  "stopped" {"allThreadsStopped":true,"reason":"step","threadId":1}
+next {"threadId":1}
+  32 "next" true {}
+  "continued" {"allThreadsContinued":true,"threadId":1}
+slice
+slice
+  "output" {"category":"stdout","output":"."}
+  "stopped" {"allThreadsStopped":true,"reason":"step","threadId":1}
 "#;
 
 #[test]
@@ -360,5 +468,11 @@ fn changes_stop_the_run(rt: HostRuntime) -> Result<(), Fail> {
 #[test]
 fn instructions_stop_the_run(rt: HostRuntime) -> Result<(), Fail> {
     assert_eq!(rt; first_other(rt.alloc(), INSTRUCTIONS)?, None);
+    Ok(())
+}
+
+#[test]
+fn hits_are_counted(rt: HostRuntime) -> Result<(), Fail> {
+    assert_eq!(rt; first_other(rt.alloc(), HITS)?, None);
     Ok(())
 }

@@ -97,9 +97,10 @@ const CAPABILITIES: &str = concat!(
     r#""supportsDataBreakpoints":true,"supportsDisassembleRequest":true,"#,
     r#""supportsEvaluateForHovers":true,"supportsExceptionInfoRequest":true,"#,
     r#""supportsFunctionBreakpoints":true,"supportsGotoTargetsRequest":true,"#,
-    r#""supportsInstructionBreakpoints":true,"supportsLoadedSourcesRequest":true,"#,
-    r#""supportsLogPoints":true,"supportsReadMemoryRequest":true,"supportsRestartRequest":true,"#,
-    r#""supportsSetVariable":true,"supportsStepBack":true,"supportsSteppingGranularity":true,"#,
+    r#""supportsHitConditionalBreakpoints":true,"supportsInstructionBreakpoints":true,"#,
+    r#""supportsLoadedSourcesRequest":true,"supportsLogPoints":true,"#,
+    r#""supportsReadMemoryRequest":true,"supportsRestartRequest":true,"supportsSetVariable":true,"#,
+    r#""supportsStepBack":true,"supportsSteppingGranularity":true,"#,
     r#""supportsTerminateRequest":true,"supportsWriteMemoryRequest":true}"#,
 );
 

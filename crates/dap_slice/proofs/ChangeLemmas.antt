@@ -1,7 +1,7 @@
 -- Watched places, and the marks of breakpoints.
 use Rattle.std.proofs.Common.{◌≡◌, ◌∙◌, ◌-◌, map, ℕ, List, [], ◌∷◌}
-use Rattle.std.proofs.Common.{◌++◌, Bool, true, false, ◌||◌, ◌==◌, not, if◌then◌else◌, Option, Some, None}
-use Rattle.std.proofs.Common.{Result, Ok, Err, OnOk, is_some, refl, sym, ap, subst, arith}
+use Rattle.std.proofs.Common.{◌++◌, Bool, true, false, ◌&&◌, ◌||◌, ◌==◌, not, if◌then◌else◌}
+use Rattle.std.proofs.Common.{Option, Some, None, Result, Ok, Err, OnOk, is_some, refl, sym, ap, subst, arith}
 use Rattle.std.proofs.Math.Bool.{or-false}
 use Rattle.std.proofs.lemmas.Bool.Decides.{nat_tests}
 use Rattle.std.proofs.lemmas.List.{map-append}
@@ -22,6 +22,7 @@ use Rattle.lab_core.specs.Marks.{MarksState, value_at, is_changed, watch_of, mar
 use Rattle.dap_slice.specs.declared.conditions.ConditionalBreakpoint.{ConditionalBreakpoint}
 use Rattle.dap_slice.specs.declared.conditions.Trigger.{Trigger}
 use Rattle.dap_slice.specs.declared.conditions.Trigger.TheVariants as trigger
+use Rattle.dap_slice.specs.Hits.{is_wanted}
 use Rattle.dap_slice.specs.Conditions.{is_there, is_any_at, holds_on, watched_by, watched_places, IsMarked}
 use Rattle.dap_slice.specs.Changes.{change_of, change_by, change_on, first_change, change_at, is_any_changed}
 use Rattle.dap_slice.specs.Changes.{watch_between, IsAfterStep}
@@ -107,7 +108,7 @@ changed-watch was b [] = refl
 changed-watch was b (w ∷ ws) =
     ap (λ more. is_changed was.machine b.machine w || more) (changed-watch was b ws)
 
-some-unless : (same : Bool) (c : PlaceChange) → is_some (if same then None else Some c) ≡ not same
+pub some-unless : (same : Bool) (c : PlaceChange) → is_some (if same then None else Some c) ≡ not same
 some-unless true c = refl
 some-unless false c = refl
 
@@ -177,7 +178,7 @@ Watches points was b = map (watch_between was b) (watched_places points)
 pub past_address : (p : ConditionalBreakpoint) (ps : Points) (address : ℕ) (was b : Board)
     → p.trigger ≡ trigger.Address address
     → (first_change (p ∷ ps) was b ≡ first_change ps was b) × (Watches (p ∷ ps) was b ≡ Watches ps was b)
-past_address p ps address was b is = rw is (by (holds_on b p.condition), refl)
+past_address p ps address was b is = rw is (by (is_wanted p.hits && holds_on b p.condition), refl)
   where
     by : (holds : Bool)
         → option_or (if holds then None else None) (first_change ps was b) ≡ first_change ps was b
@@ -213,7 +214,7 @@ of-place was b place c is = by (before == after) refl is
 
 on-point : (was b : Board) (p : ConditionalBreakpoint) (c : PlaceChange) → change_on was b p ≡ Some c
     → IsStepChange was b c
-on-point was b p c is = by (holds_on b p.condition) p.trigger is
+on-point was b p c is = by (is_wanted p.hits && holds_on b p.condition) p.trigger is
   where
     by : (holds : Bool) (t : Trigger) → (if holds then change_by was b t else None) ≡ Some c
         → IsStepChange was b c
@@ -246,8 +247,9 @@ change-same : (was b b' : Board) (p : ConditionalBreakpoint) → SameMachine b b
     → change_on was b p ≡ change_on was b' p
 change-same was b b' p same = by p.trigger
   where
-    by : (t : Trigger) → (if holds_on b p.condition then change_by was b t else None)
-        ≡ (if holds_on b' p.condition then change_by was b' t else None)
+    by : (t : Trigger)
+        → (if is_wanted p.hits && holds_on b p.condition then change_by was b t else None)
+        ≡ (if is_wanted p.hits && holds_on b' p.condition then change_by was b' t else None)
     by (trigger.Address address) = rw (same_condition b b' p.condition same) refl
     by (trigger.Change place) = rw (same_condition b b' p.condition same, same.machine) refl
 

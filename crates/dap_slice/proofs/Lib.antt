@@ -1,4 +1,5 @@
 pub mod ChangeLemmas
+pub mod CountLemmas
 pub mod LogLemmas
 pub mod SliceLemmas
 pub mod ValueLemmas

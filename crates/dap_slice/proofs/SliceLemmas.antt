@@ -1,7 +1,7 @@
 -- Slices that end where they come to a breakpoint.
 use Rattle.std.proofs.Common.{◌≡◌, ◌≢◌, ◌∙◌, ◌≤◌, ◌<◌, ◌+◌, ◌-◌, ℕ, zero, suc, List, []}
 use Rattle.std.proofs.Common.{Bool, true, false, ◌&&◌, ◌||◌, if◌then◌else◌, Option, Some, None, is_some}
-use Rattle.std.proofs.Common.{Result, Ok, Err, refl, sym, ap, subst, arith, length}
+use Rattle.std.proofs.Common.{Result, Ok, Err, refl, sym, ap, subst, arith, length, take, drop, ◌++◌}
 use Rattle.std.specs.Result.{IfOk, OnErr}
 use Rattle.std.specs.declared.alloc.AllocError.{AllocError}
 use Rattle.i80_exec.specs.declared.ports.PortOperation.{PortOperation}
@@ -26,11 +26,13 @@ use Rattle.lab_core.proofs.LawLemmas.{applies-given, slice_within}
 use Rattle.lab_core.proofs.MarkLemmas.{first-within, first-before}
 use Rattle.dap_slice.specs.declared.conditions.ConditionalBreakpoint.{ConditionalBreakpoint}
 use Rattle.dap_slice.specs.Conditions.{is_any_met, IsMarked}
-use Rattle.dap_slice.specs.Changes.{change_at, IsAfterStep}
+use Rattle.dap_slice.specs.Changes.{first_change, change_at, IsAfterStep}
+use Rattle.dap_slice.specs.Counts.{points_after}
 use Rattle.dap_slice.specs.SliceEnds.{is_at_after, first_arrival, outcome_at, stopped_if_met, change_after}
 use Rattle.dap_slice.specs.SliceEnds.{slice_end_within, after_end, after_slice_within}
 use Rattle.dap_slice.specs.SliceEnds.{IsSliceEnd, IsSliceWithin, IsStepChange, StopsAtChange}
 use Rattle.dap_slice.specs.declared.slice.SliceResult.{SliceResult}
+use Rattle.dap_slice.proofs.CountLemmas.{none_after, Counts, list_after}
 use Rattle.dap_slice.proofs.ChangeLemmas.{marked_there, marked_still, after_step, first_is, first_of}
 
 abbrev pub Points : Type 0
@@ -134,16 +136,6 @@ arrived points marks n old new k traffic ending is slices b represents running =
     of-gives points n b a.0 k traffic ending new (slice_from n' 0 b)
     (ap (λ m. slice_from m 0 b) (sym (arrives points marks n b is))) gives.0 gives.1 a.2
 
-same-count : (points : Points) (b : Board) (k : ℕ) (ending : SliceOutcome)
-    → (stopped_if_met points b (k, ending)).0 ≡ k
-same-count points b k outcome.More = refl
-same-count points b k outcome.Waiting = refl
-same-count points b k (outcome.Stop s) = refl
-same-count points b k (outcome.End e) = refl
-
-pair-is : (p : ℕ × SliceOutcome) → (p.0, p.1) ≡ p
-pair-is (k, ending) = refl
-
 pub whole : (points : Points) (n : ℕ) (b : Board) (s : SliceResult) (ending : SliceOutcome)
     (mid new : LabState) → IsArrival points n b s.executed s.traffic ending mid
     → s.outcome ≡ (stopped_if_met points b (s.executed, ending)).1
@@ -151,21 +143,18 @@ pub whole : (points : Points) (n : ℕ) (b : Board) (s : SliceResult) (ending : 
     → RepresentsBoard new (left_by s.outcome (after_steps s.executed b))
     → IsSliceWithin points n b s × RepresentsBoard new (after_slice_within points n b)
 whole points n b s ending mid new came how told represents =
-    let count = same-count points b s.executed ending in
-    let p = stopped_if_met points b (s.executed, ending) in
-    let C : ℕ → SliceOutcome → Type 0 = λ k o. s.change ≡ change_after points (k, o) b in
-    let seen : C p.0 p.1 = subst (C p.0) how (subst (λ k. C k s.outcome) (sym count) told) in
+    let C : SliceOutcome → Type 0 = λ o. s.change ≡ change_after points (s.executed, o) b in
     let E : ℕ × SliceOutcome → Type 0 =
     λ end. IsSliceEnd points (stopped_if_met points b end) b s
     × RepresentsBoard new (after_end (stopped_if_met points b end) b) in
     subst E (sym came.end_is) (
       record {
-        executed = sym count;
-        traffic = rw count came.traffic_is;
+        executed = refl;
+        traffic = came.traffic_is;
         outcome = how;
-        change = subst (λ end. s.change ≡ change_after points end b) (pair-is p) seen;
+        change = subst C how told;
       },
-      rw (count, ← how) represents,
+      subst (λ o. RepresentsBoard new (left_by o (after_steps s.executed b))) how represents,
     )
 
 -- ---- laws
@@ -182,7 +171,8 @@ not-met was b = by b.is_attached
     by false = refl
 
 plain : (b : Board) (end : ℕ × SliceOutcome) → stopped_if_met [] b end ≡ end
-plain b (k, outcome.More) = ap (λ e. (k, e)) (not-met (after_steps (k - 1) b) (after_steps k b))
+plain b (k, outcome.More) =
+    rw (none_after k b) (ap (λ e. (k, e)) (not-met (after_steps (k - 1) b) (after_steps k b)))
 plain b (k, outcome.Waiting) = refl
 plain b (k, outcome.Stop s) = refl
 plain b (k, outcome.End e) = refl
@@ -191,32 +181,29 @@ plain b (k, outcome.End e) = refl
 pub untold : (end : ℕ × SliceOutcome) (b : Board) → change_after [] end b ≡ None
 untold (k, outcome.More) b = refl
 untold (k, outcome.Waiting) b = refl
-untold (k, outcome.Stop s) b = refl
+untold (k, outcome.Stop s) b =
+    ap (λ ps. first_change ps (after_steps (k - 1) b) (after_steps k b)) (none_after k b)
 untold (k, outcome.End e) b = refl
 
 pub none_plain : (n : ℕ) (b : Board) → slice_end_within [] n b ≡ slice_from n 0 b
 none_plain n b = plain b _ ∙ ap (λ m. slice_from m 0 b) (none_arrives n b)
 
-count-of : (points : Points) (b : Board) (end : ℕ × SliceOutcome) → (stopped_if_met points b end).0 ≡ end.0
-count-of points b (k, ending) = same-count points b k ending
-
 pub within_arrival : (points : Points) (n : ℕ) (b : Board)
     → (slice_end_within points n b).0 ≤ first_arrival points n b
-within_arrival points n b =
-    let k = first_arrival points n b in
-    rw (count-of points b (slice_from k 0 b)) (slice_within k b)
+within_arrival points n b = slice_within (first_arrival points n b) b
 
 -- a breakpoint that stops nothing leaves an end as it is
 kept_end : (points : Points) (b : Board) (end : ℕ × SliceOutcome)
-    → outcome_at points (after_steps (end.0 - 1) b) (after_steps end.0 b) ≡ outcome.More
-    → stopped_if_met points b end ≡ end
+    → outcome_at (points_after points end.0 b) (after_steps (end.0 - 1) b) (after_steps end.0 b)
+    ≡ outcome.More → stopped_if_met points b end ≡ end
 kept_end points b (k, outcome.More) none = ap (λ e. (k, e)) none
 kept_end points b (k, outcome.Waiting) none = refl
 kept_end points b (k, outcome.Stop s) none = refl
 kept_end points b (k, outcome.End e) none = refl
 
 pub unmet_plain : (points : Points) (n : ℕ) (b : Board)
-    → ((j : ℕ) → j ≤ n → outcome_at points (after_steps (j - 1) b) (after_steps j b) ≡ outcome.More)
+    → ((j : ℕ) → j ≤ n
+    → outcome_at (points_after points j b) (after_steps (j - 1) b) (after_steps j b) ≡ outcome.More)
     → slice_end_within points n b ≡ slice_from (first_arrival points n b) 0 b
 unmet_plain points n b none =
     let k = first_arrival points n b in
@@ -255,7 +242,7 @@ change-stops : (points : Points) (b : Board) (end : ℕ × SliceOutcome) (c : Pl
 change-stops points b (k, outcome.More) c is = absurd cc
 change-stops points b (k, outcome.Waiting) c is = absurd cc
 change-stops points b (k, outcome.Stop s) c is =
-    let change = first_is points (after_steps (k - 1) b) (after_steps k b) c is in
+    let change = first_is (points_after points k b) (after_steps (k - 1) b) (after_steps k b) c is in
     record {
       some = some-step k b c change;
       reason = s;
@@ -270,12 +257,12 @@ pub change_stops : (points : Points) (n : ℕ) (b : Board) (c : PlaceChange)
 change_stops points n b c is = change-stops points b (slice_end_within points n b) c is
 
 pub change_told : (points : Points) (k : ℕ) (b : Board) (c : PlaceChange)
-    → change_at points (after_steps (k - 1) b) (after_steps k b) ≡ Some c
+    → change_at (points_after points k b) (after_steps (k - 1) b) (after_steps k b) ≡ Some c
     → (stopped_if_met points b (k, outcome.More) ≡ (k, outcome.Stop stop.Breakpoint))
     × (change_after points (k, outcome.Stop stop.Breakpoint) b ≡ Some c)
 change_told points k b c is = (
-  ap (λ o. (k, o)) (stops-at points (after_steps (k - 1) b) (after_steps k b) c is),
-  first_of points (after_steps (k - 1) b) (after_steps k b) c is,
+  ap (λ o. (k, o)) (stops-at (points_after points k b) (after_steps (k - 1) b) (after_steps k b) c is),
+  first_of (points_after points k b) (after_steps (k - 1) b) (after_steps k b) c is,
 )
 
 -- ---- the board's own slice
@@ -305,22 +292,78 @@ plain_end points n b result new none made =
     let P : Points → Type 0 = λ ps. Made ps (slice_end_within ps n b) b result new in
     subst P (sym none) (subst E (sym (none_plain n b)) made)
 
+-- and counts nothing
+pub plain_counted : (points points' : Points) (n : ℕ) (b : Board) (result : Result SliceResult AllocError)
+    (new : LabState) → points ≡ [] → points' ≡ [] → Made [] (slice_from n 0 b) b result new
+    → IfOk result (λ s. points' ≡ points_after points s.executed b)
+plain_counted points points' n b (Err e) new none none' made = made
+plain_counted points points' n b (Ok s) new none none' made =
+    none' ∙ sym (ap (λ ps. points_after ps s.executed b) none ∙ none_after s.executed b)
+
 -- ---- marks
 
-pub still_marked : (points : Points) (marks marks' : MarksState) (n : ℕ) (old : LabState) (k : ℕ)
-    (traffic : List PortOperation) (ending : SliceOutcome) → IsMarked points marks
-    → Leaves n old (sliced k traffic ending) marks marks' → (b : Board) → RepresentsBoard old b
+pub still_marked : (points : Points) (marks marks' : MarksState) (n : ℕ) (old : LabState)
+    (reply : Answered) (s : SliceResult) → IsMarked points marks → Leaves n old reply marks marks'
+    → reply ≡ sliced s.executed s.traffic s.outcome → (b : Board) → RepresentsBoard old b
     → IsMarked points marks'
-still_marked points marks marks' n old k traffic ending marked leaves b represents =
-    subst (λ m. IsMarked points m) (sym (leaves b represents).0) (marked_still points marks k b marked)
+still_marked points marks marks' n old reply s marked leaves is b represents =
+    let L : Answered → Type 0 = λ r. Leaves n old r marks marks' in
+    subst (λ m. IsMarked points m) (sym (subst L is leaves b represents).0)
+    (marked_still points marks s.executed b marked)
 
-pub seen_step : (points : Points) (marks marks' : MarksState) (n : ℕ) (old : LabState) (k : ℕ)
+seen_step : (points : Points) (marks marks' : MarksState) (n : ℕ) (old : LabState) (k : ℕ)
     (traffic : List PortOperation) (ending : SliceOutcome) → IsMarked points marks
     → Leaves n old (sliced k traffic ending) marks marks' → (b : Board) → RepresentsBoard old b
     → IsAfterStep points (after_steps (k - 1) b) (after_steps k b) marks'
 seen_step points marks marks' n old k traffic ending marked leaves b represents =
     subst (λ m. IsAfterStep points (after_steps (k - 1) b) (after_steps k b) m) (sym (leaves b represents).0)
     (after_step points marks k b marked)
+
+-- a slice was made, so the run went on
+runs : (marks : MarksState) (n : ℕ) (old mid : LabState) (a : Answer) → SlicesTo marks n old (ok a) mid
+    → (b : Board) → RepresentsBoard old b → b.run ≡ Running
+runs marks n old mid a slices b represents =
+    let x = slices b represents (not_refused a OutOfMemory) in
+    let n' = first_mark marks n b in
+    by b.run x.0 (slice_from n' 0 b) (applies-given b x.0 (Slice n') (ok a) x.1)
+  where
+    by : (run : RunState) (b' : Board) (end : ℕ × SliceOutcome)
+        → Gives b (while_running run (Ok (sliced_at b end))) (ok a) b' → run ≡ Running
+    by Running b' end gives = refl
+    by NoRun b' end gives = absurd (not_refused a NotRunning gives.0)
+    by Stopped b' end gives = absurd (not_refused a NotRunning gives.0)
+
+-- a slice was made, and its hits are counted in a vector of n breakpoints
+pub record IsCountedSlice (points : Points) (new : Points) (n : ℕ) (most : ℕ) (b : Board) (s : SliceResult)
+    (mid : LabState) (marks : MarksState)
+    : Type 0 where
+  pub came : IsArrival points most b s.executed s.traffic s.outcome mid
+  pub step : IsAfterStep points (after_steps (s.executed - 1) b) (after_steps s.executed b) marks
+  pub counted : take n (new ++ drop (length new) points) ≡ points_after points s.executed b
+
+pub slice_counts : (points ps new : Points) (n most : ℕ) (marks marks' : MarksState) (old mid : LabState)
+    (reply : Answered) (s : SliceResult) → IsMarked points marks → SlicesTo marks most old reply mid
+    → Leaves most old reply marks marks' → reply ≡ sliced s.executed s.traffic s.outcome → n ≡ length points
+    → ps ≡ points → Counts ps new s.executed mid marks' → (b : Board) → RepresentsBoard old b
+    → IsCountedSlice points new n most b s mid marks'
+slice_counts points ps new n most marks marks' old mid reply s marked slices leaves is long same counts b
+    represents =
+    let S : Answered → Type 0 = λ r. SlicesTo marks most old r mid in
+    let L : Answered → Type 0 = λ r. Leaves most old r marks marks' in
+    let a = Sliced s.executed s.traffic s.outcome in
+    let running = runs marks most old mid a (subst S is slices) b represents in
+    let came =
+    arrived points marks most old mid s.executed s.traffic s.outcome marked (subst S is slices) b represents
+    running in
+    let step =
+    seen_step points marks marks' most old s.executed s.traffic s.outcome marked (subst L is leaves) b
+    represents in
+    record {
+      came = came;
+      step = step;
+      counted = list_after points ps new n s.executed b s.outcome mid marks' long same counts
+          came.represents step;
+    }
 
 -- any other answer is an error
 pub same_marks : (points : Points) (marks marks' : MarksState) (n : ℕ) (old new : LabState)

@@ -1,5 +1,5 @@
 -- Changes of watched places (Debug Adapter Protocol, "DataBreakpoint").
-use Rattle.std.specs.Prelude.{ℕ, ◌≡◌, List, [], ◌∷◌, map, Bool, ◌==◌, Option, Some, None, is_some}
+use Rattle.std.specs.Prelude.{ℕ, ◌≡◌, List, [], ◌∷◌, map, Bool, ◌&&◌, ◌==◌, Option, Some, None, is_some}
 use Rattle.std.specs.Prelude.{if◌then◌else◌}
 use Rattle.std.specs.List.{list_any}
 use Rattle.std.specs.Option.{option_or}
@@ -11,6 +11,7 @@ use Rattle.lab_core.specs.Marks.{MarksState, value_at}
 use Rattle.dap_slice.specs.declared.conditions.ConditionalBreakpoint.{ConditionalBreakpoint}
 use Rattle.dap_slice.specs.declared.conditions.Trigger.{Trigger}
 use Rattle.dap_slice.specs.declared.conditions.Trigger.TheVariants as trigger
+use Rattle.dap_slice.specs.Hits.{is_wanted}
 use Rattle.dap_slice.specs.Conditions.{holds_on, watched_places}
 
 -- a place with its values before and after a step from the first board to the second
@@ -32,9 +33,10 @@ abbrev pub change_by : Board → Board → Trigger → Option PlaceChange
 change_by was b (trigger.Address address) = None
 change_by was b (trigger.Change place) = change_of was b place
 
--- the change that meets a breakpoint, whose condition is asked after the step
+-- the change at which a breakpoint acts, whose condition is asked after the step
 abbrev pub change_on : Board → Board → ConditionalBreakpoint → Option PlaceChange
-change_on was b p = if holds_on b p.condition then change_by was b p.trigger else None
+change_on was b p =
+    if is_wanted p.hits && holds_on b p.condition then change_by was b p.trigger else None
 
 -- that of the first breakpoint that has one
 abbrev pub first_change : List ConditionalBreakpoint → Board → Board → Option PlaceChange

@@ -13,6 +13,7 @@ use Rattle.dap_expr.specs.Values.{value_on}
 use Rattle.dap_slice.specs.declared.conditions.ConditionalBreakpoint.{ConditionalBreakpoint}
 use Rattle.dap_slice.specs.declared.conditions.Trigger.{Trigger}
 use Rattle.dap_slice.specs.declared.conditions.Trigger.TheVariants as trigger
+use Rattle.dap_slice.specs.Hits.{is_wanted}
 
 -- the address is one to which PC is to come
 abbrev pub is_reached : ℕ → Trigger → Bool
@@ -39,9 +40,17 @@ holds_on b (Some condition) = is_true (value_on b condition)
 abbrev pub is_met_on : Board → ConditionalBreakpoint → Bool
 is_met_on b p = is_there b.machine.regs.pc p && holds_on b p.condition
 
+-- with a hit condition it acts only at the hits that this names
+abbrev pub acts_on : Board → ConditionalBreakpoint → Bool
+acts_on b p = is_wanted p.hits && is_met_on b p
+
 -- one with a log message stops nothing
 abbrev pub stops_on : Board → ConditionalBreakpoint → Bool
-stops_on b p = is_none p.log && is_met_on b p
+stops_on b p = is_none p.log && acts_on b p
+
+-- A run that goes back passes over those with hit conditions.
+abbrev pub stops_back : Board → ConditionalBreakpoint → Bool
+stops_back b p = is_none p.hits && stops_on b p
 
 -- a breakpoint stops the run, while a debugger is attached
 abbrev pub is_any_met : List ConditionalBreakpoint → Board → Bool

@@ -1,4 +1,6 @@
-pub mod Changes
+pub mod Hits
 pub mod Conditions
+pub mod Changes
+pub mod Counts
 pub mod Logs
 pub mod SliceEnds

@@ -8,14 +8,14 @@ use Rattle.dap_log.specs.Messages.{text_on}
 use Rattle.dap_slice.specs.declared.conditions.ConditionalBreakpoint.{ConditionalBreakpoint}
 use Rattle.dap_slice.specs.declared.conditions.LogPoint.{LogPoint}
 use Rattle.dap_slice.specs.declared.logs.LogLine.{LogLine}
-use Rattle.dap_slice.specs.Conditions.{is_met_on}
+use Rattle.dap_slice.specs.Conditions.{acts_on}
 
 abbrev pub line_on : Board → LogPoint → LogLine
 line_on b l = record { text = text_on b l.message; path = l.path; line = l.line }
 
--- a breakpoint tells its message where it is met
+-- a breakpoint tells its message where it acts
 abbrev pub log_on : Board → ConditionalBreakpoint → Option LogLine
-log_on b p = if is_met_on b p then option_map (line_on b) p.log else None
+log_on b p = if acts_on b p then option_map (line_on b) p.log else None
 
 abbrev pub logs_on : List ConditionalBreakpoint → Board → List LogLine
 logs_on points b = filter_map (log_on b) points

@@ -1,7 +1,7 @@
 -- Slices of a run of at most so many steps, which end where they come to a breakpoint with a condition, or a
 -- step changes a watched place.
-use Rattle.std.specs.Prelude.{◌≡◌, ◌≢◌, ◌≤◌, ℕ, ◌-◌, List, Bool, ◌||◌, Option, None, is_some, Result, IfOk}
-use Rattle.std.specs.Prelude.{if◌then◌else◌}
+use Rattle.std.specs.Prelude.{◌≡◌, ◌≢◌, ◌≤◌, ℕ, ◌-◌, List, length, Bool, ◌||◌, Option, None, is_some, Result}
+use Rattle.std.specs.Prelude.{IfOk, if◌then◌else◌}
 use Rattle.std.specs.declared.alloc.AllocError.{AllocError}
 use Rattle.lab_shown.specs.declared.place.PlaceChange.{PlaceChange}
 use Rattle.lab_core.specs.declared.answer.SliceOutcome.{SliceOutcome}
@@ -18,6 +18,7 @@ use Rattle.dap_slice.specs.declared.conditions.ConditionalBreakpoint.{Conditiona
 use Rattle.dap_slice.specs.declared.slice.SliceResult.{SliceResult}
 use Rattle.dap_slice.specs.Conditions.{is_any_at, is_any_met}
 use Rattle.dap_slice.specs.Changes.{is_any_changed, first_change, change_at}
+use Rattle.dap_slice.specs.Counts.{points_after}
 
 -- whether the board after so many steps is at one of these breakpoints, or the last step changed a watched
 -- place
@@ -36,11 +37,15 @@ outcome_at points was b =
     if is_any_met points b || is_some (change_at points was b) then outcome.Stop stop.Breakpoint
     else outcome.More
 
--- a slice that ends for no other reason stops where a breakpoint is met
+-- a slice that ends for no other reason stops where a breakpoint acts
+abbrev pub outcome_if_met : List ConditionalBreakpoint → Board → Board → SliceOutcome → SliceOutcome
+outcome_if_met points was b outcome.More = outcome_at points was b
+outcome_if_met points was b ending = ending
+
+-- with the hits that its last step makes
 abbrev pub stopped_if_met : List ConditionalBreakpoint → Board → ℕ × SliceOutcome → ℕ × SliceOutcome
-stopped_if_met points b (k, outcome.More) =
-    (k, outcome_at points (after_steps (k - 1) b) (after_steps k b))
-stopped_if_met points b end = end
+stopped_if_met points b (k, ending) =
+    (k, outcome_if_met (points_after points k b) (after_steps (k - 1) b) (after_steps k b) ending)
 
 -- where a slice of at most n steps ends, and how
 abbrev pub slice_end_within : List ConditionalBreakpoint → ℕ → Board → ℕ × SliceOutcome
@@ -48,10 +53,13 @@ slice_end_within points n b = stopped_if_met points b (slice_from (first_arrival
 
 -- The change of which a stopped run is told: its last step's, whatever else stopped it there. A run that goes
 -- on, waits or has ended tells none.
+abbrev pub change_told : List ConditionalBreakpoint → Board → Board → SliceOutcome → Option PlaceChange
+change_told points was b (outcome.Stop reason) = first_change points was b
+change_told points was b ending = None
+
 abbrev pub change_after : List ConditionalBreakpoint → ℕ × SliceOutcome → Board → Option PlaceChange
-change_after points (k, outcome.Stop reason) b =
-    first_change points (after_steps (k - 1) b) (after_steps k b)
-change_after points end b = None
+change_after points (k, ending) b =
+    change_told (points_after points k b) (after_steps (k - 1) b) (after_steps k b) ending
 
 -- the board after a slice that ends there
 abbrev pub after_end : ℕ × SliceOutcome → Board → Board
@@ -78,6 +86,17 @@ abbrev pub MakesSlice : List ConditionalBreakpoint → ℕ → LabState → Resu
 MakesSlice points n old result new =
     (b : Board) → RepresentsBoard old b → b.run ≡ Running
     → IfOk result (λ s. IsSliceWithin points n b s × RepresentsBoard new (after_slice_within points n b))
+
+-- and the breakpoints have its hits
+abbrev pub CountsHits : List ConditionalBreakpoint → LabState → Result SliceResult AllocError
+    → List ConditionalBreakpoint → Type 0
+CountsHits old lab result new =
+    (b : Board) → RepresentsBoard lab b → b.run ≡ Running
+    → IfOk result (λ s. new ≡ points_after old s.executed b)
+
+-- a slice has no more port operations than steps
+abbrev pub HasFew : SliceResult → Type 0
+HasFew s = length s.traffic ≤ 4096
 
 -- ---- for laws
 

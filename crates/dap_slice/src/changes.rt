@@ -1,14 +1,16 @@
 //! Changes of watched places.
-ghost use Rattle.std.specs.Prelude.{◌≡◌, ℕ, ◌-◌, None, if◌then◌else◌};
+ghost use Rattle.std.specs.Prelude.{◌≡◌, ◌&&◌, None, if◌then◌else◌};
 ghost use Rattle.lab_core.specs.Board.{Board};
-ghost use Rattle.lab_core.specs.Slices.{after_steps, left_by};
+ghost use Rattle.lab_core.specs.Slices.{left_by};
 ghost use Rattle.lab_core.specs.Labs.{RepresentsBoard};
+ghost use Rattle.dap_slice.specs.Hits.{is_wanted};
 ghost use Rattle.dap_slice.specs.Conditions.{holds_on};
 ghost use Rattle.dap_slice.specs.Changes as changes;
 ghost use Rattle.dap_slice.specs.Changes.{first_change, IsAfterStep};
-ghost use Rattle.dap_slice.specs.SliceEnds.{change_after};
+ghost use Rattle.dap_slice.specs.SliceEnds.{change_told};
 
 use crate::conditions::{ConditionalBreakpoint, Trigger, holds};
+use crate::hits::is_wanted;
 use lab_core::answer::SliceOutcome;
 use lab_core::lab::Lab;
 use lab_core::marks::{Marks, Watch};
@@ -29,7 +31,7 @@ fn change_in(watch: &Watch, by: u16) -> Option<PlaceChange>
     })
 }
 
-// The same, if the condition of the watch's breakpoint is true.
+// The same, if the watch's breakpoint acts at this hit and its condition is true.
 fn change_on(
     lab: &Lab,
     point: &ConditionalBreakpoint,
@@ -37,9 +39,10 @@ fn change_on(
     by: u16,
 ) -> Option<PlaceChange>
     ensures { (b : Board) → RepresentsBoard lab.now b → result
-        ≡ (if holds_on b point.now.condition then changes.change_in watch.now by else None) }
+        ≡ (if is_wanted point.now.hits && holds_on b point.now.condition
+        then changes.change_in watch.now by else None) }
 {
-    if holds(lab, &point.condition) {
+    if is_wanted(point.hits) && holds(lab, &point.condition) {
         change_in(watch, by)
     } else {
         None
@@ -75,15 +78,14 @@ pub(crate) fn first_change(
 }
 
 /// The change of which a run is told that stopped with this outcome.
-pub(crate) fn change_after(
+pub(crate) fn change_told(
     lab: &Lab,
     points: &[ConditionalBreakpoint],
     marks: &Marks,
     outcome: SliceOutcome,
 ) -> Option<PlaceChange>
-    ensures { (b : Board) (k : ℕ) → RepresentsBoard lab.now (left_by outcome (after_steps k b))
-        → IsAfterStep points.now (after_steps (k - 1) b) (after_steps k b) marks.now
-        → result ≡ change_after points.now (k, outcome) b }
+    ensures { (was b : Board) → RepresentsBoard lab.now (left_by outcome b)
+        → IsAfterStep points.now was b marks.now → result ≡ change_told points.now was b outcome }
 {
     match outcome {
         SliceOutcome::Stop(_) => first_change(lab, points, marks),

@@ -5,8 +5,10 @@ ghost use Rattle.asm_expr.specs.declared.evaluation.ExprFault.{ExprFault};
 ghost use Rattle.lab_core.specs.Board.{Board};
 ghost use Rattle.lab_core.specs.Labs.{RepresentsBoard};
 ghost use Rattle.dap_slice.specs.declared.conditions.ConditionalBreakpoint.{ConditionalBreakpoint};
-ghost use Rattle.dap_slice.specs.Conditions.{is_reached, is_true, holds_on, is_met_on, stops_on, IsMarked};
+ghost use Rattle.dap_slice.specs.Conditions.{is_reached, is_true, holds_on, is_met_on, acts_on, stops_on};
+ghost use Rattle.dap_slice.specs.Conditions.{stops_back, IsMarked};
 
+use crate::hits::{Hits, is_wanted};
 use asm_expr::evaluation::ExprFault;
 use base_text::text::Text;
 use dap_expr::expression::Expression;
@@ -35,11 +37,14 @@ pub enum Trigger {
 }
 
 /// A breakpoint that is met only where its condition is true, if it has one. It stops the run there, or, if
-/// it is at an address, tells its log message.
+/// it is at an address, tells its log message; with a hit condition only at the hits that this names.
 #[derive(Drop)]
 pub struct ConditionalBreakpoint {
+    /// Its number. Those for the places of one data breakpoint have the same.
+    pub id: u32,
     pub trigger: Trigger,
     pub condition: Option<Expression>,
+    pub hits: Option<Hits>,
     pub log: Option<LogPoint>,
 }
 
@@ -95,17 +100,31 @@ fn is_reached(address: u16, trigger: Trigger) -> bool
     }
 }
 
-/// Whether a breakpoint is at PC and its condition is true.
-pub(crate) fn is_met(lab: &Lab, point: &ConditionalBreakpoint) -> bool
+// Whether a breakpoint is at PC and its condition is true.
+fn is_met(lab: &Lab, point: &ConditionalBreakpoint) -> bool
     ensures { (b : Board) → RepresentsBoard lab.now b → result ≡ is_met_on b point.now }
 {
     is_reached(lab.regs().pc, point.trigger) && holds(lab, &point.condition)
 }
 
+/// Whether a breakpoint is met, and at a hit that it names.
+pub(crate) fn acts(lab: &Lab, point: &ConditionalBreakpoint) -> bool
+    ensures { (b : Board) → RepresentsBoard lab.now b → result ≡ acts_on b point.now }
+{
+    is_wanted(point.hits) && is_met(lab, point)
+}
+
 fn stops(lab: &Lab, point: &ConditionalBreakpoint) -> bool
     ensures { (b : Board) → RepresentsBoard lab.now b → result ≡ stops_on b point.now }
 {
-    point.log.is_none() && is_met(lab, point)
+    point.log.is_none() && acts(lab, point)
+}
+
+// Whether a breakpoint stops a run that goes back.
+fn stops_back(lab: &Lab, point: &ConditionalBreakpoint) -> bool
+    ensures { (b : Board) → RepresentsBoard lab.now b → result ≡ stops_back b point.now }
+{
+    point.hits.is_none() && stops(lab, point)
 }
 
 /// Whether a breakpoint without a log message is met.
@@ -154,11 +173,16 @@ impl ConditionalBreakpoints {
         &self.points
     }
 
-    /// Whether one of those at addresses stops a run that comes to where the board is.
-    pub fn is_any_met(&self, lab: &Lab) -> bool
-        ensures { (b : Board) → RepresentsBoard lab.now b → result ≡ list_any (stops_on b) self.now }
+    /// Whether one of those at addresses stops a run that goes back to where the board is.
+    pub fn is_any_met_back(&self, lab: &Lab) -> bool
+        ensures { (b : Board) → RepresentsBoard lab.now b → result ≡ list_any (stops_back b) self.now }
     {
-        is_any_met(lab, &self.points)
+        for point in &self.points {
+            if stops_back(lab, point) {
+                return true;
+            }
+        }
+        false
     }
 
     /// Adds a breakpoint. If memory runs out nothing changes.

@@ -1,5 +1,6 @@
 //! Laws of the definitions.
 ghost use Rattle.std.specs.Prelude.{◌≡◌, ◌≤◌, ◌<◌, ℕ, ◌-◌, List, [], Some, false};
+ghost use Rattle.std.specs.List.{list_any};
 ghost use Rattle.lab_shown.specs.declared.place.PlaceChange.{PlaceChange};
 ghost use Rattle.lab_core.specs.declared.answer.SliceOutcome.TheVariants.{More, Stop};
 ghost use Rattle.lab_core.specs.declared.answer.Stop.TheVariants.{Breakpoint};
@@ -7,8 +8,10 @@ ghost use Rattle.lab_core.specs.Board.{Board};
 ghost use Rattle.lab_core.specs.Slices.{after_steps};
 ghost use Rattle.lab_core.specs.SliceEnds.{slice_from};
 ghost use Rattle.dap_slice.specs.declared.conditions.ConditionalBreakpoint.{ConditionalBreakpoint};
+ghost use Rattle.dap_slice.specs.Conditions.{stops_back};
 ghost use Rattle.dap_slice.specs.Logs.{logs_before, logs_of_steps};
 ghost use Rattle.dap_slice.specs.Changes.{change_at};
+ghost use Rattle.dap_slice.specs.Counts.{points_after, after_each_step, without_hits};
 ghost use Rattle.dap_slice.specs.SliceEnds.{slice_end_within, stopped_if_met, change_after};
 ghost use Rattle.dap_slice.specs.SliceEnds.{is_at_after, first_arrival, outcome_at, StopsAtChange};
 
@@ -21,7 +24,8 @@ pub fn none_is_plain()
 /// watched place.
 pub fn unmet_is_plain()
     ensures { (points : List ConditionalBreakpoint) (n : ℕ) (b : Board)
-        → ((j : ℕ) → j ≤ n → outcome_at points (after_steps (j - 1) b) (after_steps j b) ≡ More)
+        → ((j : ℕ) → j ≤ n
+        → outcome_at (points_after points j b) (after_steps (j - 1) b) (after_steps j b) ≡ More)
         → slice_end_within points n b ≡ slice_from (first_arrival points n b) 0 b }
 {}
 
@@ -44,6 +48,25 @@ pub fn each_step_is_told()
         ≡ logs_of_steps points (slice_end_within points n b).0 b }
 {}
 
+/// A slice counts the hits of each of its steps, in order.
+pub fn each_hit_is_counted()
+    ensures { (points : List ConditionalBreakpoint) (n : ℕ) (b : Board)
+        → points_after points (slice_end_within points n b).0 b
+        ≡ after_each_step points (slice_end_within points n b).0 b }
+{}
+
+/// A breakpoint without a hit condition stays as it is, and one with a condition keeps all but its count.
+pub fn only_counts_change()
+    ensures { (points : List ConditionalBreakpoint) (k : ℕ) (b : Board)
+        → without_hits (points_after points k b) ≡ without_hits points }
+{}
+
+/// A run that goes back stops at the same breakpoints, whatever their counts are.
+pub fn no_count_matters_back()
+    ensures { (points : List ConditionalBreakpoint) (b : Board)
+        → list_any (stops_back b) (without_hits points) ≡ list_any (stops_back b) points }
+{}
+
 /// The change that a slice tells is its last step's, and the run is stopped there.
 pub fn a_change_stops()
     ensures { (points : List ConditionalBreakpoint) (n : ℕ) (b : Board) (change : PlaceChange)
@@ -55,7 +78,7 @@ pub fn a_change_stops()
 /// of that change.
 pub fn a_change_is_told()
     ensures { (points : List ConditionalBreakpoint) (k : ℕ) (b : Board) (change : PlaceChange)
-        → change_at points (after_steps (k - 1) b) (after_steps k b) ≡ Some change
+        → change_at (points_after points k b) (after_steps (k - 1) b) (after_steps k b) ≡ Some change
         → (stopped_if_met points b (k, More) ≡ (k, Stop Breakpoint))
         × (change_after points (k, Stop Breakpoint) b ≡ Some change) }
 {}

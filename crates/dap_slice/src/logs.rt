@@ -4,7 +4,7 @@ ghost use Rattle.lab_core.specs.Board.{Board};
 ghost use Rattle.lab_core.specs.Labs.{RepresentsBoard};
 ghost use Rattle.dap_slice.specs.Logs.{line_on, log_on, logs_on};
 
-use crate::conditions::{ConditionalBreakpoint, ConditionalBreakpoints, LogPoint, is_met};
+use crate::conditions::{ConditionalBreakpoint, ConditionalBreakpoints, LogPoint, acts};
 use base_text::sequence::Sequence;
 use base_text::text::Text;
 use lab_core::lab::Lab;
@@ -38,7 +38,7 @@ fn log_on(
     ensures { (b : Board) → RepresentsBoard lab.now b → IfOk result (λ line. line ≡ log_on b point.now) }
 {
     match &point.log {
-        Some(log) if is_met(lab, point) => Ok(Some(line_on(alloc, lab, log)?)),
+        Some(log) if acts(lab, point) => Ok(Some(line_on(alloc, lab, log)?)),
         _ => Ok(None),
     }
 }

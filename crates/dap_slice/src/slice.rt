@@ -8,12 +8,13 @@ ghost use Rattle.lab_core.specs.Slices.{after_steps, left_by};
 ghost use Rattle.lab_core.specs.SliceEnds.{slice_from};
 ghost use Rattle.lab_core.specs.Labs.{RepresentsBoard};
 ghost use Rattle.dap_slice.specs.Changes.{IsAfterStep};
-ghost use Rattle.dap_slice.specs.SliceEnds.{MakesSlice, IsSliceEnd, IsSliceWithin};
-ghost use Rattle.dap_slice.specs.SliceEnds.{outcome_at, stopped_if_met};
+ghost use Rattle.dap_slice.specs.SliceEnds.{MakesSlice, IsSliceEnd, IsSliceWithin, CountsHits, HasFew};
+ghost use Rattle.dap_slice.specs.SliceEnds.{outcome_at, outcome_if_met};
 ghost use Rattle.dap_slice.specs.SliceEnds.{after_end, after_slice_within};
 
-use crate::changes::{change_after, first_change};
+use crate::changes::{change_told, first_change};
 use crate::conditions::{ConditionalBreakpoint, ConditionalBreakpoints, is_any_met};
+use crate::counts::count_hits;
 use i80_devs::traffic::Traffic;
 use lab_core::answer::{Answer, SliceOutcome, Stop};
 use lab_core::event::Event;
@@ -101,11 +102,10 @@ fn end_at(
     marks: &Marks,
     outcome: SliceOutcome,
 ) -> SliceOutcome
-    ensures { (b : Board) (k : ℕ) → b.run ≡ Running
-        → IsAfterStep points.now (after_steps (k - 1) b) (after_steps k b) marks.now
-        → RepresentsBoard lab.old (left_by outcome (after_steps k b))
-        → (result ≡ (stopped_if_met points.now b (k, outcome)).1)
-        × RepresentsBoard lab.new (left_by result (after_steps k b)) }
+    ensures { (was b : Board) → b.run ≡ Running → IsAfterStep points.now was b marks.now
+        → RepresentsBoard lab.old (left_by outcome b)
+        → (result ≡ outcome_if_met points.now was b outcome)
+        × RepresentsBoard lab.new (left_by result b) }
 {
     match outcome {
         SliceOutcome::More => stop_if_met(lab, points, marks),
@@ -120,8 +120,8 @@ impl ConditionalBreakpoints {
     pub fn slice(&mut self, lab: &mut Lab, most: u16) -> Result<SliceResult, AllocError>
         requires { (1 ≤ most) × (most ≤ 4096) × ((b : Board) × RepresentsBoard lab.old b) }
         ensures made { MakesSlice self.old most lab.old result lab.new }
-        ensures few { IfOk result (λ s. length s.traffic ≤ 4096) }
-        ensures rest { (self.new ≡ self.old) × OnErr result (lab.new ≡ lab.old) }
+        ensures hits { CountsHits self.old lab.old result self.new }
+        ensures rest { IfOk result HasFew × OnErr result ((self.new ≡ self.old) × (lab.new ≡ lab.old)) }
     {
         if self.points.is_empty() {
             plain_slice(lab, most)
@@ -137,15 +137,17 @@ impl ConditionalBreakpoints {
         ensures made { (b : Board) → RepresentsBoard lab.old b → b.run ≡ Running
             → IfOk result (λ s. IsSliceWithin self.old most b s
             × RepresentsBoard lab.new (after_slice_within self.old most b)) }
+        ensures hits { CountsHits self.old lab.old result self.new }
         ensures few { (b : Board) → RepresentsBoard lab.old b → IfOk result (λ s. length s.traffic ≤ 4096) }
-        ensures err { (b : Board) → RepresentsBoard lab.old b → OnErr result (lab.new ≡ lab.old) }
-        ensures same { self.new ≡ self.old }
+        ensures err { (b : Board) → RepresentsBoard lab.old b
+            → OnErr result ((self.new ≡ self.old) × (lab.new ≡ lab.old)) }
     {
         let answer = lab.slice_to(most, &mut self.marks);
-        let points = self.points.as_slice();
         let slice = slice_in(answer)?;
+        count_hits(lab, &mut self.points, &self.marks, slice.executed);
+        let points = self.points.as_slice();
         let outcome = end_at(lab, points, &self.marks, slice.outcome);
-        let change = change_after(lab, points, &self.marks, outcome);
+        let change = change_told(lab, points, &self.marks, outcome);
         Ok(SliceResult {
             outcome,
             change,

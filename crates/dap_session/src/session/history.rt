@@ -10,8 +10,8 @@ ghost use Rattle.dap_session.specs.States.{SessionState, with_board};
 ghost use Rattle.dap_session.specs.Represents.{RepresentsSession, RepresentsSome};
 ghost use Rattle.dap_session.specs.Laws.{SameParts, has_begun};
 ghost use Rattle.dap_session.specs.Rewinds as rewinds;
-ghost use Rattle.dap_session.specs.Rewinds.{rewound, IsRunAt, BeginsSearch, SearchedFurther, IsSearched};
-ghost use Rattle.dap_session.specs.Rewinds.{ForEachRun, ForEachSearch, KeepsHistories};
+ghost use Rattle.dap_session.specs.Rewinds.{rewound, recounting, IsRunAt, BeginsSearch, SearchedFurther};
+ghost use Rattle.dap_session.specs.Rewinds.{IsSearched, ForEachRun, ForEachSearch, KeepsHistories};
 
 use crate::session::Session;
 use dap_history::goal::Goal;
@@ -102,8 +102,8 @@ impl Session {
         drop(saved);
     }
 
-    /// Puts the run back, or on, to where it had made `count` steps, and stops it there. If memory runs out
-    /// the run may be at any of its moments.
+    /// Puts the run back, or on, to where it had made `count` steps, stops it there, and counts the hits of
+    /// breakpoints from there on. If memory runs out the run may be at any of its moments.
     pub fn rewind(&mut self, history: &mut History, count: u64) -> Result<(), AllocError>
         requires { (start : Board) × IsHistoryOf start history.old }
         ensures ok { ForEachRun history.old self.old (λ start s. OnOk result
@@ -112,14 +112,23 @@ impl Session {
     {
         match history.go_to(&mut self.lab, count) {
             Ok(()) => {
-                self.release();
+                self.begin_anew();
                 Ok(())
             }
             Err(_) => Err(AllocError),
         }
     }
 
-    // Lets the program go on from where its run was put.
+    // Counts hits from where the run was put, and lets the program go on there.
+    fn begin_anew(&mut self)
+        ensures { self.new
+            ≡ record self.old { settings = rewinds.after_release (recounting self.old.settings) } }
+    {
+        self.settings.conditional.forget_hits();
+        self.release();
+    }
+
+    // Lets the program go on from where its run is held.
     fn release(&mut self)
         ensures { self.new ≡ record self.old { settings = rewinds.after_release self.old.settings } }
     {
@@ -164,7 +173,7 @@ impl Session {
     {
         match search.go_on(history, &mut self.lab, &self.settings.conditional) {
             Ok(Some(found)) => {
-                self.release();
+                self.begin_anew();
                 Ok(Some(found))
             }
             Ok(None) => Ok(None),

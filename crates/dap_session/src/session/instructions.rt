@@ -50,6 +50,7 @@ impl Session {
         alloc: Global,
         instructions: &[InstructionBreakpoint],
     ) -> Result<Option<ConditionalBreakpoints>, AllocError>
+        requires { length instructions.now ≤ 256 }
         ensures { FindsWanted (instructions_wanted instructions.now) self.now result }
     {
         match &self.settings.program {

@@ -61,6 +61,7 @@ impl Session {
         alloc: Global,
         on_data: &[DataBreakpoint],
     ) -> Result<Option<ConditionalBreakpoints>, AllocError>
+        requires { length on_data.now ≤ 256 }
         ensures { FindsWanted (data_wanted on_data.now) self.now result }
     {
         match &self.settings.program {

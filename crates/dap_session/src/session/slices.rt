@@ -53,24 +53,19 @@ impl Session {
             asks_line,
             outcome,
         } = slice;
-        self.note_question(asks_line);
-        self.leave(outcome);
+        self.leave(asks_line, outcome);
         Ok(RunSlice { messages, executed })
     }
 
-    // Notes in the settings that the program asked for a line, if it did.
-    fn note_question(&mut self, asks_line: bool)
-        ensures { self.new ≡ record self.old { settings = with_question asks_line self.old.settings } }
+    // Notes in the settings whether the program asked for a line in a slice, and how that ended.
+    fn leave(&mut self, asks_line: bool, outcome: SliceOutcome)
+        ensures { self.new ≡ record self.old {
+          settings = settings_after outcome (with_question asks_line self.old.settings);
+        } }
     {
         if asks_line {
             self.settings.has_asked = true;
         }
-    }
-
-    // Notes in the settings how a slice ended.
-    fn leave(&mut self, outcome: SliceOutcome)
-        ensures { self.new ≡ record self.old { settings = settings_after outcome self.old.settings } }
-    {
         match outcome {
             SliceOutcome::More | SliceOutcome::Stop(_) => {}
             SliceOutcome::Waiting => self.settings.waits = true,

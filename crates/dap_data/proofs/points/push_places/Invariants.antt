@@ -1,15 +1,14 @@
 use Rattle.std.proofs.Common.{◌≡◌, ◌++◌, length}
 use Rattle.std.specs.List.{filter_map}
-use Rattle.dap_lines.specs.Conditions.{condition_read}
 use Rattle.dap_slice.specs.declared.conditions.Trigger.TheVariants.{Change}
-use Rattle.dap_data.specs.Points.{stop_with}
+use Rattle.dap_lines.specs.Conditions.{stop_by}
 use Rattle.dap_data.proofs.points.push_places.Given as goal
 
 -- those so far, and those of the places that are left
 abbrev pub invariant-loop-place : goal.invariant-loop-place
 invariant-loop-place l =
-    l.points ++ filter_map (λ place. stop_with (Change place) (condition_read l.condition)) l.left
-    ≡ l.fn.points ++ filter_map (λ place. stop_with (Change place) (condition_read l.condition)) l.places
+    l.points ++ filter_map (λ place. stop_by l.point.id (Change place) l.point.options) l.left
+    ≡ l.fn.points ++ filter_map (λ place. stop_by l.point.id (Change place) l.point.options) l.places
 
 abbrev pub decreases-loop-place : goal.decreases-loop-place
 decreases-loop-place l = length l.left
