@@ -8,7 +8,7 @@ import plain_board
 import plain_far
 import plain_programs
 from editor import printed
-from plain_debugger import PlainDebugger
+from plain_debugger import PlainDebugger, Point
 
 # The memory that is compared: program, data and stack.
 COMPARED = 0x400
@@ -61,7 +61,7 @@ class Walk:
         if kind < 3:
             return self.change
         if kind < 6:
-            return self.set_breakpoints
+            return self.chance.choice((self.set_breakpoints, self.set_breakpoints, self.set_label_breakpoints))
         if kind < 8:
             return self.set_data_breakpoints
         if kind < 10:
@@ -281,41 +281,54 @@ class Walk:
         everywhere = range(self.program.text.count("\n") + 2)
         inside = [self.program.lines[at] for at in sorted(self.program.firsts) if at < self.program.start]
         chosen = sorted({line for some in (everywhere, inside) for line in self.chance.sample(some, self.chance.randint(0, 3))})
-        options = [(*self.condition(), *self.message()) for _ in chosen]
         landings = [self.plain.landing(line) for line in chosen]
+        options = [self.options(landing, may_tell=True) for landing in landings]
         shown = [(line, False) if landing is None else (landing, True) for line, landing in zip(chosen, landings)]
-        given = [{"line": line} | ({"condition": condition} if condition else {}) | ({"logMessage": message} if message else {})
-                 for line, (condition, _, message, _) in zip(chosen, options)]
+        given = [{"line": line} | asked for line, (asked, _) in zip(chosen, options)]
         answer = self.do("setBreakpoints", source={"path": self.path}, breakpoints=given)["breakpoints"]
         equal([(it["line"], it["verified"]) for it in answer], shown)
-        self.plain.breakpoints, self.plain.conditions, self.plain.messages = set(), {}, {}
-        for landing, (_, holds, _, text) in zip(landings, options):
-            if landing is not None:
-                self.plain.set_breakpoint(landing, holds, text)
+        self.plain.set_breakpoints("line", [point for _, point in options if point.where is not None])
+
+    def set_label_breakpoints(self):
+        """Up to three, in either case."""
+        chosen = self.chance.sample(sorted(self.program.labels.items()), self.chance.randint(0, 3))
+        lines = [self.program.lines[address] for address, _ in chosen]
+        options = [self.options(line, may_tell=True) for line in lines]
+        given = [{"name": self.chance.choice((label, label.lower()))} | asked for (_, label), (asked, _) in zip(chosen, options)]
+        answer = self.do("setFunctionBreakpoints", breakpoints=given)["breakpoints"]
+        equal(answer, [{"id": number, "line": line, "verified": True} for number, line in enumerate(lines, 1)])
+        self.plain.set_breakpoints("label", [point for _, point in options])
 
     def set_data_breakpoints(self):
         """Up to three, mostly at bytes."""
-        points = [(*self.watched(), *self.condition()) for _ in range(self.chance.randint(0, 3))]
-        given = [{"dataId": data_id} | ({"condition": condition} if condition else {}) for data_id, _, condition, _ in points]
+        watched = [self.watched() for _ in range(self.chance.randint(0, 3))]
+        options = [self.options(places) for _, places in watched]
+        given = [{"dataId": data_id} | asked for (data_id, _), (asked, _) in zip(watched, options)]
         answer = self.do("setDataBreakpoints", breakpoints=given)["breakpoints"]
-        equal(answer, [{"id": FIRST_DATA_ID + number, "verified": True} for number in range(len(points))])
-        self.plain.data = [(places, holds or (lambda board: True)) for _, places, _, holds in points]
+        equal(answer, [{"id": FIRST_DATA_ID + number, "verified": True} for number in range(len(given))])
+        self.plain.set_breakpoints("data", [point for _, point in options])
 
     def set_instruction_breakpoints(self):
         """Up to four, mostly where instructions begin, and some amid them or elsewhere."""
         begin, any_of = sorted(self.program.firsts), sorted(self.program.lines)
         places = [self.chance.choice((begin, begin, begin, any_of, range(65_536))) for _ in range(self.chance.randint(0, 4))]
-        points = [(self.chance.choice(some), *self.condition()) for some in places]
+        options = [self.options(self.chance.choice(some)) for some in places]
         given = []
-        for address, condition, _ in points:
-            base = self.chance.choice((address, self.chance.randrange(65_536)))
-            given.append({"instructionReference": f"0x{base:04x}", "offset": address - base})
-            if condition:
-                given[-1]["condition"] = condition
+        for asked, point in options:
+            base = self.chance.choice((point.where, self.chance.randrange(65_536)))
+            given.append({"instructionReference": f"0x{base:04x}", "offset": point.where - base} | asked)
         answer = self.do("setInstructionBreakpoints", breakpoints=given)["breakpoints"]
-        equal(answer, [{"id": FIRST_INSTRUCTION_ID + number, "instructionReference": f"0x{address:04x}", "verified": True}
-                       for number, (address, *_) in enumerate(points)])
-        self.plain.instructions = [(address, holds or (lambda board: True)) for address, _, holds in points]
+        equal(answer, [{"id": FIRST_INSTRUCTION_ID + number, "instructionReference": f"0x{point.where:04x}", "verified": True}
+                       for number, (_, point) in enumerate(options)])
+        self.plain.set_breakpoints("instruction", [point for _, point in options])
+
+    def options(self, where, may_tell=False):
+        """What is asked of a breakpoint beside its place, and the model's breakpoint there."""
+        (condition, holds), (hits, fits), (message, text) = self.condition(), self.hit_condition(), (None, None)
+        if may_tell:
+            message, text = self.message()
+        asked = {"condition": condition, "hitCondition": hits, "logMessage": message}
+        return {name: given for name, given in asked.items() if given}, Point(where, holds, fits, text)
 
     def watched(self):
         """What a data breakpoint watches: its dataId, and its places. It is a register, a pair, or bytes among the data, the
@@ -344,6 +357,17 @@ class Walk:
             ("SP < 0", lambda board: False),
             (f"{byte} / (A AND 0)", lambda board: True)))
 
+    def hit_condition(self):
+        """A hit condition's text and what it says of a number of hits, or None twice."""
+        number = self.chance.choice((1, 1, 2, 2, 3, 5))
+        blank = self.chance.choice(("", " "))
+        return self.chance.choice((
+            (None, None), (None, None), (None, None),
+            (f"{number}", lambda hits: hits == number), (f"=={blank}{number}", lambda hits: hits == number),
+            (f">{blank}{number}", lambda hits: hits > number), (f">={blank}{number}", lambda hits: hits >= number),
+            (f"<{blank}{number + 1}", lambda hits: hits < number + 1), (f"<={blank}{number}", lambda hits: hits <= number),
+            (f"%{blank}{number}", lambda hits: hits % number == 0)))
+
     def message(self):
         """A log message and its text on a board, or None twice."""
         address = plain_programs.DATA + self.chance.randrange(8)
@@ -371,8 +395,8 @@ class FarWalk:
         self.editor, self.path, self.chance = editor, path, chance
         self.inputs, self.count, self.told = [], 0, 0
         # What a breakpoint at the carry does: it stops the run before it, on its line or at its instruction, or, since the carry
-        # changes SP, behind it; it tells a message, or there is none.
-        self.at_carry = None
+        # changes SP, behind it; it tells a message, or there is none. It does so at each of so many hits, if it has a hit condition.
+        self.at_carry, self.every, self.hits = None, None, 0
 
     def go(self, actions):
         with open(self.path, "w", encoding="ascii") as file:
@@ -394,9 +418,9 @@ class FarWalk:
         self.editor.do("continue", threadId=1)
         if self.at_carry == "stops":
             equal(self.editor.stop(), "breakpoint")
-            self.count = plain_far.carry_after(self.count)
+            self.count = self.next_hit(plain_far.carry_after)
         elif self.at_carry == "changes":
-            self.count = plain_far.change_after(self.count)
+            self.count = self.next_hit(plain_far.change_after)
             sp = plain_far.board_at(self.inputs, self.count).sp
             told = f"SP: {sp:04X}H, was {sp - 1:04X}H, by {plain_far.STARTS[plain_far.CARRIES]:04X}"
             body = self.editor.events_to("stopped")[-1][1]
@@ -408,10 +432,25 @@ class FarWalk:
             equal(printed(events, "console"), "".join(f"{number}\n" for number in self.carries(before)))
         self.told = max(self.told, self.count)
 
+    def next_hit(self, place_after):
+        """The count of steps at the next hit that is asked for, if they are at the places that this gives."""
+        count, self.hits = place_after(self.count), self.hits + 1
+        while not self.is_wanted():
+            count, self.hits = place_after(count), self.hits + 1
+        return count
+
+    def is_wanted(self):
+        return self.every is None or self.hits > 0 and self.hits % self.every == 0
+
     def carries(self, before):
-        """The numbers of the carries from this count of steps on, which SP counts, if they are told."""
-        first, behind = (plain_far.board_at(self.inputs, count).sp for count in (before, self.count))
-        return range(first, behind) if self.at_carry == "tells" else ()
+        """The numbers of the carries, which SP counts, that are told from this count of steps on: where the run goes on from them."""
+        found, count = [], plain_far.carry_after(before - 1)
+        while count <= self.count:
+            self.hits += count > before
+            if count < self.count and self.at_carry == "tells" and self.is_wanted():
+                found.append(plain_far.board_at(self.inputs, count).sp)
+            count = plain_far.carry_after(count)
+        return found
 
     def count_now(self):
         pc, sp, *bc = [int(self.editor.shown(1)[name].rstrip("H"), 16) for name in ("PC", "SP", "B", "C")]
@@ -428,11 +467,11 @@ class FarWalk:
             equal(self.editor.refusal(command, **arguments), NOWHERE)
             return
         self.editor.do(command, **arguments)
-        self.count = max(count, 0)
+        self.count, self.hits = max(count, 0), 0
         equal(self.editor.stop(), "entry" if reason == "breakpoint" and self.count == 0 else reason)
 
     def carry_before(self):
-        return plain_far.carry_before(self.count) if self.at_carry == "stops" else 0
+        return plain_far.carry_before(self.count) if self.at_carry == "stops" and self.every is None else 0
 
     def change(self):
         byte = self.chance.randrange(256)
@@ -450,10 +489,12 @@ class FarWalk:
     def set_breakpoint(self):
         self.at_carry, kind = self.chance.choice((
             ("stops", "line"), ("stops", "instruction"), ("changes", "data"), ("tells", "line"), (None, None)))
-        point = {"line": plain_far.CARRY_LINE} | ({"logMessage": "{SP}"} if self.at_carry == "tells" else {})
+        self.every, self.hits = self.chance.choice((None, None, 1, 2, 3)), 0
+        hits = {"hitCondition": f"% {self.every}"} if self.every else {}
+        point = {"line": plain_far.CARRY_LINE} | ({"logMessage": "{SP}"} if self.at_carry == "tells" else {}) | hits
         self.editor.do("setBreakpoints", source={"path": self.path}, breakpoints=[point] if kind == "line" else [])
-        self.editor.do("setDataBreakpoints", breakpoints=[{"dataId": "SP"}] if kind == "data" else [])
-        at = {"instructionReference": f"0x{plain_far.STARTS[plain_far.CARRIES]:04x}"}
+        self.editor.do("setDataBreakpoints", breakpoints=[{"dataId": "SP"} | hits] if kind == "data" else [])
+        at = {"instructionReference": f"0x{plain_far.STARTS[plain_far.CARRIES]:04x}"} | hits
         self.editor.do("setInstructionBreakpoints", breakpoints=[at] if kind == "instruction" else [])
 
 

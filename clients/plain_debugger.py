@@ -5,20 +5,29 @@ from plain_board import OFF, ON, board_at, boards
 MOST_STEPS = 3000
 
 
+class Point:
+    """A breakpoint: the line or the address at which it is, or the places that it watches, as of `Board.value`; its condition, its
+    hit condition and its log message, each None or what it says of a board or of a number of hits."""
+
+    def __init__(self, where, holds=None, fits=None, text=None):
+        self.where, self.holds, self.fits, self.text = where, holds, fits, text
+
+    def is_plain(self):
+        return not (self.holds or self.fits or self.text)
+
+    def is_true(self, board):
+        return not self.holds or bool(self.holds(board))
+
+
 class PlainDebugger:
     """A run of a program that is held at its ends, with its inputs and breakpoints."""
 
     def __init__(self, program, inputs):
         self.program, self.inputs = program, [(0, *what) for what in inputs]
-        self.board, self.told, self.breakpoints = self.board_at(0), 0, set()
-        # Of each line with breakpoints that have conditions those conditions, each by what it says of a board; of each line with
-        # log messages these, each by its condition and by its text on a board.
-        self.conditions, self.messages = {}, {}
-        # Of each breakpoint at an instruction its address, and its condition by what it says of a board.
-        self.instructions = []
-        # Of each data breakpoint the places that it watches, as of `Board.value`, and its condition; what was told of the last
-        # change at which one stopped.
-        self.data, self.change = [], None
+        self.board, self.told = self.board_at(0), 0
+        # The breakpoints of each kind, in their order; how often the run came to each of them that has a hit condition; what was
+        # told of the last change at which one stopped.
+        self.points, self.hits, self.change = {"line": [], "label": [], "data": [], "instruction": []}, {}, None
         # The step that it makes, if it makes one, with the count and the live routines where it went on; how it is held at its end.
         self.pending, self.resumed, self.live, self.held = None, 0, (), None
 
@@ -42,46 +51,60 @@ class PlainDebugger:
 
     def take_breakpoints(self, other):
         """Has those of another run."""
-        self.breakpoints, self.conditions, self.messages = other.breakpoints, other.conditions, other.messages
-        self.data, self.instructions = other.data, other.instructions
+        self.points = other.points
 
-    def set_breakpoint(self, line, holds, text):
-        """Sets one, with a condition or None, and with a log message or None."""
-        if text:
-            self.messages.setdefault(line, []).append((holds or (lambda board: True), text))
-        elif holds:
-            self.conditions.setdefault(line, []).append(holds)
-        else:
-            self.breakpoints.add(line)
+    def set_breakpoints(self, kind, points):
+        """Sets those of a kind. All count their hits from now on."""
+        self.points, self.hits = self.points | {kind: points}, {}
+
+    def on_line(self, board):
+        """The breakpoints on the line that begins there, with those at labels behind the others."""
+        line = self.program.lines[board.pc] if self.begins(board) else None
+        return [it for it in self.points["line"] + self.points["label"] if it.where == line]
+
+    def points_there(self, board):
+        """The same with those at instructions."""
+        return self.on_line(board) + [it for it in self.points["instruction"] if it.where == board.pc]
 
     def is_at_breakpoint(self, board):
-        return self.begins(board) and self.program.lines[board.pc] in self.breakpoints
+        """Whether one without options is on the line."""
+        return any(it.is_plain() for it in self.on_line(board))
 
     def is_at_condition(self, board):
-        """Whether a breakpoint with a condition, or one at an instruction, is met there."""
-        on_line = self.conditions.get(self.program.lines[board.pc], ()) if self.begins(board) else ()
-        return any(it(board) for it in on_line) or any(board.pc == at and holds(board) for at, holds in self.instructions)
+        """Whether a breakpoint with a condition or a hit condition, or one at an instruction, stops the run there."""
+        return any(it.is_true(board) and not it.text and self.is_wanted(it) for it in self.points_there(board))
+
+    def is_wanted(self, point):
+        """Whether a breakpoint acts at the last of its hits."""
+        return not point.fits or point in self.hits and point.fits(self.hits[point])
 
     def watched(self, board):
         """PC, and what each watched place holds."""
-        return board.pc, {place: board.value(place) for places, _ in self.data for place in places}
+        return board.pc, {place: board.value(place) for point in self.points["data"] for place in point.where}
+
+    def changed(self, point, before, board):
+        """Those places of a data breakpoint that the last step changed, if the board was so before it."""
+        return [it for it in point.where if board.value(it) != before[1][it]]
+
+    def count_hits(self, before, board):
+        """Counts the last step, if the board was so before it, for each breakpoint that it comes to."""
+        come_to = self.points_there(board) + [it for it in self.points["data"] if self.changed(it, before, board)]
+        self.hits = self.hits | {it: self.hits.get(it, 0) + 1 for it in come_to if it.fits and it.is_true(board)}
 
     def change_since(self, before, board):
         """What is told of the change at which a data breakpoint stops, if the board was so before its last step; None if none
         stops."""
         by, values = before
-        for places, holds in self.data:
-            changed = [it for it in places if board.value(it) != values[it]]
-            if changed and holds(board):
+        for point in self.points["data"]:
+            changed = self.changed(point, before, board)
+            if changed and point.is_true(board) and self.is_wanted(point):
                 return change_text(changed[0], board.value(changed[0]), values[changed[0]], by)
         return None
 
     def told_before_step(self, board):
         """What breakpoints tell before the next step: a line and a text for each message."""
-        if not self.begins(board):
-            return []
-        line = self.program.lines[board.pc]
-        return [(line, text(board)) for holds, text in self.messages.get(line, ()) if holds(board)]
+        return [(self.program.lines[board.pc], it.text(board)) for it in self.points_there(board)
+                if it.text and it.is_true(board) and self.is_wanted(it)]
 
     # ---- forward
 
@@ -97,6 +120,8 @@ class PlainDebugger:
             if board.count == max(self.told, self.board.count):
                 heard = len(board.console)
             # A condition is asked where a step has come to it, and a change is one by a step, before what is done again there.
+            if before:
+                self.count_hits(before, board)
             reason = self.reason(board, before)
             if board.count > self.board.count:
                 self.do_again(board)
@@ -161,14 +186,16 @@ class PlainDebugger:
         return self.go_to(self.last_before(lambda it: self.begins(it) and len(it.frames) <= most))
 
     def stops_going_back(self, board):
-        return self.is_at_breakpoint(board) or self.is_at_condition(board)
+        """Whether a breakpoint without a hit condition stops the run there."""
+        return any(it.is_true(board) and not it.text and not it.fits for it in self.points_there(board))
 
     def reverse(self):
         self.go_to(self.last_before(self.stops_going_back))
         return "breakpoint" if self.stops_going_back(self.board) else "entry"
 
     def go_to(self, count):
-        self.board, self.held = self.board_at(max(count, 0)), None
+        """Hits are counted from there on."""
+        self.board, self.held, self.hits = self.board_at(max(count, 0)), None, {}
         return "step"
 
     # ---- inputs

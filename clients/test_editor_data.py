@@ -173,9 +173,7 @@ NO_DATA_IDS = (
 WRONG = (
     *(({"dataId": name}, f"no register or bytes: {name}") for name in NO_DATA_IDS),
     *(({"dataId": "B", "accessType": kind}, "only writes are watched") for kind in ("read", "readWrite")),
-    *(({"dataId": "B"} | more, "hit counts are not supported") for more in (
-        {"hitCondition": "2"}, {"hitCondition": " "}, {"hitCondition": 2}, {"condition": 7}, {"condition": True},
-        {"condition": ["A"]})),
+    *(({"dataId": "B", "condition": condition}, "conditions and log messages must be texts") for condition in (7, True, ["A"], {})),
     *(({"dataId": "B", "condition": text}, f"condition{why}") for text, why in {
         "A == MOV": ", column 6: Name", "A ==": ", column 1: Operands", "70000": ", column 1: Number", "NOTHING": ": Undefined",
         "A" * 1025: ", column 1: TooLong", "A" * 10**6: ", column 1: TooLong"}.items()),
@@ -308,8 +306,9 @@ class Setting(Data):
     def test_which_fault_is_told_first(self):
         editor = self.editor()
         editor.launch(self.count())
-        faults = (({"dataId": "XYZ", "accessType": "read", "condition": "A ==", "hitCondition": "2"}, "hit counts are not supported"),
+        faults = (({"dataId": "XYZ", "accessType": "read", "condition": 1}, "only writes are watched"),
                   ({"dataId": "XYZ", "accessType": "read", "condition": "A =="}, "only writes are watched"),
+                  ({"dataId": "XYZ", "condition": 1}, "no register or bytes: XYZ"),
                   ({"dataId": "XYZ", "condition": "A =="}, "no register or bytes: XYZ"))
         for given, why in faults:
             # Those after the sixteenth are told of it last.

@@ -74,9 +74,7 @@ WRONG = (
         "A == MOV": ", column 6: Name", "A ==": ", column 1: Operands", " ": ", column 1: Operands", "70000": ", column 1: Number",
         "NOTHING": ": Undefined", "[NOTHING] > 1": ": Undefined", "A" * 1025: ", column 1: TooLong",
         "A" * 10**6: ", column 1: TooLong", "(" * 65 + "1" + ")" * 65: ", column 1: Nesting"}.items()),
-    *((more, "hit counts are not supported") for more in (
-        {"hitCondition": "2"}, {"hitCondition": " "}, {"hitCondition": 2}, {"condition": 7}, {"condition": True},
-        {"condition": ["A"]})),
+    *(({"condition": condition}, "conditions and log messages must be texts") for condition in (7, True, ["A"], {})),
 )
 
 # Items that make their list a bad argument.
@@ -211,7 +209,7 @@ class Setting(Instructions):
     def test_which_fault_is_told_first(self):
         editor = self.editor()
         editor.launch(self.count())
-        faults = (({"instructionReference": "x", "condition": "A ==", "hitCondition": "2"}, "hit counts are not supported"),
+        faults = (({"instructionReference": "x", "condition": 1}, "there is no such address"),
                   ({"instructionReference": "x", "condition": "A =="}, "there is no such address"),
                   ({"instructionReference": "0xffff", "offset": 1, "condition": "NOTHING"}, "there is no such address"))
         shown = self.set(editor, *(given for given, _ in faults))
@@ -249,9 +247,9 @@ class Setting(Instructions):
         editor, path = self.editor(), self.count()
         editor.initialize()
         given = [instruction(AT_SHOW, "B == 2"), instruction(AT_SHOW, "NOTHING"), {"instructionReference": "SHOW"},
-                 instruction(AT_SHOW) | {"hitCondition": "2"}, instruction(AT_HLT)]
-        not_yet, counts = "nothing is launched yet", "hit counts are not supported"
-        wanted = [unverified(number, counts if number == 3 else not_yet) for number in range(5)]
+                 instruction(AT_SHOW) | {"condition": 2}, instruction(AT_HLT)]
+        not_yet, texts = "nothing is launched yet", "conditions and log messages must be texts"
+        wanted = [unverified(number, texts if number == 3 else not_yet) for number in range(5)]
         self.assertEqual(self.set(editor, *given), wanted)
         editor.do("launch", program=path)
         self.assertEqual(editor.event(), ("initialized", None))

@@ -141,16 +141,16 @@ class Points(Session):
             editor.do("continue", threadId=1)
             self.assertEqual(editor.event()[0], "continued")
 
-    def test_with_a_hit_count_it_is_not_verified(self):
+    def test_with_an_option_that_is_no_text_it_is_not_verified(self):
         editor, path = self.editor(), self.count()
         editor.launch(path)
-        given = [{"line": SHOW, "condition": 7}, {"line": 4, "condition": ""}, {"line": 5, "hitCondition": "2"},
+        given = [{"line": SHOW, "condition": 7}, {"line": 4, "condition": ""}, {"line": 5, "logMessage": ["x"], "condition": "A"},
                  {"line": 6, "logMessage": 7, "hitCondition": None}, {"line": 7, "condition": None, "logMessage": None}]
         shown = editor.do("setBreakpoints", source={"path": path}, breakpoints=given)["breakpoints"]
         self.assertEqual([it["verified"] for it in shown], [False, True, False, False, True])
-        reason = "hit counts are not supported"
+        reason = "conditions and log messages must be texts"
         self.assertEqual([it.get("message") for it in shown], [reason, None, reason, reason, None])
-        given = [{"name": "SHOW", "hitCondition": "1"}, {"name": "NEXT"}]
+        given = [{"name": "SHOW", "condition": False}, {"name": "NEXT"}]
         shown = editor.do("setFunctionBreakpoints", breakpoints=given)["breakpoints"]
         self.assertEqual([(it["line"], it["verified"], it.get("message")) for it in shown], [(SHOW, False, reason), (4, True, None)])
 
@@ -319,9 +319,8 @@ class LogMessages(Session):
             ({"condition": "NOTHING", "logMessage": "{"}, "condition: Undefined"),
             ({"condition": "A", "logMessage": "{NOTHING} {"}, "log message, column 11: open brace"),
             ({"condition": "A", "logMessage": "{NOTHING} {B}"}, "log message: Undefined"),
-            ({"condition": "A ==", "logMessage": "{", "hitCondition": "2"}, "hit counts are not supported"),
-            ({"condition": 1, "logMessage": "{"}, "hit counts are not supported"),
-            ({"condition": "A ==", "logMessage": ["x"]}, "hit counts are not supported"))
+            ({"condition": 1, "logMessage": "{"}, "conditions and log messages must be texts"),
+            ({"condition": "A ==", "logMessage": ["x"]}, "conditions and log messages must be texts"))
         given = [{"line": SHOW} | each for each, _ in faults]
         shown = editor.do("setBreakpoints", source={"path": path}, breakpoints=given)["breakpoints"]
         self.assertEqual([(it["verified"], it["message"]) for it in shown], [(False, why) for _, why in faults])

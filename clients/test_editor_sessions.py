@@ -75,9 +75,9 @@ CAPABILITIES = {
         "supportsBreakpointLocationsRequest", "supportsConditionalBreakpoints", "supportsConfigurationDoneRequest",
         "supportsDataBreakpointBytes", "supportsDataBreakpoints", "supportsDisassembleRequest", "supportsEvaluateForHovers",
         "supportsExceptionInfoRequest", "supportsFunctionBreakpoints", "supportsGotoTargetsRequest",
-        "supportsInstructionBreakpoints", "supportsLoadedSourcesRequest", "supportsLogPoints", "supportsReadMemoryRequest",
-        "supportsRestartRequest", "supportsSetVariable", "supportsStepBack", "supportsSteppingGranularity",
-        "supportsTerminateRequest", "supportsWriteMemoryRequest"), True),
+        "supportsHitConditionalBreakpoints", "supportsInstructionBreakpoints", "supportsLoadedSourcesRequest", "supportsLogPoints",
+        "supportsReadMemoryRequest", "supportsRestartRequest", "supportsSetVariable", "supportsStepBack",
+        "supportsSteppingGranularity", "supportsTerminateRequest", "supportsWriteMemoryRequest"), True),
     "exceptionBreakpointFilters": [
         {"filter": "undefined", "label": "Undefined opcodes", "default": True},
         {"filter": "halt", "label": "HLT", "default": False}]}
@@ -98,10 +98,10 @@ CONVERSATION = (
      '"supportsConditionalBreakpoints":true,"supportsConfigurationDoneRequest":true,'
      '"supportsDataBreakpointBytes":true,"supportsDataBreakpoints":true,'
      '"supportsDisassembleRequest":true,"supportsEvaluateForHovers":true,"supportsExceptionInfoRequest":true,'
-     '"supportsFunctionBreakpoints":true,"supportsGotoTargetsRequest":true,"supportsInstructionBreakpoints":true,'
-     '"supportsLoadedSourcesRequest":true,"supportsLogPoints":true,"supportsReadMemoryRequest":true,'
-     '"supportsRestartRequest":true,"supportsSetVariable":true,"supportsStepBack":true,"supportsSteppingGranularity":true,'
-     '"supportsTerminateRequest":true,"supportsWriteMemoryRequest":true},"command":"initialize","request_seq":1,"seq":1,'
+     '"supportsFunctionBreakpoints":true,"supportsGotoTargetsRequest":true,"supportsHitConditionalBreakpoints":true,'
+     '"supportsInstructionBreakpoints":true,"supportsLoadedSourcesRequest":true,"supportsLogPoints":true,'
+     '"supportsReadMemoryRequest":true,"supportsRestartRequest":true,"supportsSetVariable":true,"supportsStepBack":true,'
+     '"supportsSteppingGranularity":true,"supportsTerminateRequest":true,"supportsWriteMemoryRequest":true},"command":"initialize","request_seq":1,"seq":1,'
      '"success":true,"type":"response"}'),
     ('{"seq":2,"type":"request","command":"launch","arguments":{"program":"PATH"}}',
      '{"body":{},"command":"launch","request_seq":2,"seq":2,"success":true,"type":"response"}',

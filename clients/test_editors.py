@@ -61,15 +61,19 @@ breakpoints: line 10, verified, moved from line 9; line 6, not verified, log mes
 Enter log message: ""
 breakpoints: line 6, verified; line 10, verified, moved from line 9
 condition: nil
+Enter hit condition: "% 0"
+breakpoints: line 6, not verified, hit condition: expected one like 5, >= 5 or % 5; line 10, verified, moved from line 9
 Enter hit condition: "2"
-breakpoints: line 6, not verified, hit counts are not supported; line 10, verified, moved from line 9
-Enter hit condition: ""
 breakpoints: line 6, verified; line 10, verified, moved from line 9
+lab80-dap-reverse: main, line 3, cursor in line 3
+lab80-dap-run: main, line 6, cursor in line 6
+B lab80: 002H
+Enter hit condition: ""
 Enter breakpoint condition: "B == 1"
 Enter log message: "then {B}"
 lab80-dap-run: main, line 10, cursor in line 10
 ended: terminated
-output: "B is 3, at 0010BH\\n3B is 2, at 0010BH\\n2B is 1, at 0010BH\\n1then 1\\n"
+output: "B is 3, at 0010BH\\n3B is 2, at 0010BH\\n2B is 3, at 0010BH\\nB is 2, at 0010BH\\nB is 1, at 0010BH\\n1then 1\\n"
 """
 
 # Kate's requests in its session, except those for its display.
