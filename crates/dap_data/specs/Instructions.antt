@@ -39,7 +39,7 @@ abbrev pub break_at : PlacedBreakpoint → Option ℕ → Option ConditionalBrea
 break_at p None = None
 break_at p (Some address) = stop_by p.id (Address address) p.options
 
--- of which an editor is told so
+-- if an editor is told that the breakpoint is verified
 abbrev pub break_of : PlacedBreakpoint → Option ConditionalBreakpoint
 break_of p = if p.is_verified then break_at p p.address else None
 

@@ -46,7 +46,7 @@ abbrev pub watches_at : PlacedBreakpoint → Option DataPlace → List Condition
 watches_at p None = []
 watches_at p (Some d) = filter_map (λ place. stop_by p.id (Change place) p.options) (places_of d)
 
--- of which an editor is told so
+-- if an editor is told that the breakpoint is verified
 abbrev pub watches_of : DataBreakpoint → PlacedBreakpoint → List ConditionalBreakpoint
 watches_of d p = if p.is_verified then watches_at p (data_named d.data_id) else []
 

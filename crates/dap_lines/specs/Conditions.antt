@@ -103,7 +103,7 @@ abbrev pub condition_read : Option Text → Result (Option Expression) Fault
 condition_read None = Ok None
 condition_read (Some text) = expression_of text >>= λ condition. Ok (Some condition)
 
--- no hit condition is one that has no fault
+-- a hit condition, if there is one; without a value if it can't be read
 abbrev pub hits_read : Option Text → Option (Option HitCondition)
 hits_read None = Some None
 hits_read (Some text) = option_map Some (hit_condition_of text)
@@ -115,6 +115,7 @@ log_read (Some text) = message_of text >>= λ message. Ok (Some message)
 abbrev pub log_point : Text → GotoTarget → LogMessage → LogPoint
 log_point path target message = record { message = message; path = path; line = target.line }
 
+-- with no hits yet
 abbrev pub unhit : HitCondition → Hits
 unhit condition = record { condition = condition; count = 0 }
 

@@ -39,7 +39,7 @@ previous zero = None
 previous (suc zero) = None
 previous (suc n) = Some n
 
--- behind `>`, where an equals sign may follow
+-- behind `>`, where `=` may follow
 abbrev pub above_by : Option Text → Text → Option HitCondition
 above_by (Some rest) text = at_least rest
 above_by None text = option_map AtLeast (option_and_then next (number_of text))
@@ -55,7 +55,7 @@ below_by None text = option_map AtMost (option_and_then previous (number_of text
 abbrev pub below : Text → Option HitCondition
 below text = below_by (behind_sign 61 text) text
 
--- behind a first equals sign there may be another
+-- behind `=`, where another may follow
 abbrev pub equals_by : Option Text → Text → Option HitCondition
 equals_by (Some rest) text = exactly rest
 equals_by None text = exactly text
@@ -63,7 +63,7 @@ equals_by None text = exactly text
 abbrev pub equals : Text → Option HitCondition
 equals text = equals_by (behind_sign 61 text) text
 
--- by its sign: greater, less, percent, equals, or none
+-- by its sign: `>`, `<`, `%`, `=`, or none
 abbrev pub by_sign : Text → Option HitCondition
 by_sign [] = exactly []
 by_sign (character ∷ rest) =

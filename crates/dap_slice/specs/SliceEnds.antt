@@ -94,7 +94,7 @@ CountsHits old lab result new =
     (b : Board) → RepresentsBoard lab b → b.run ≡ Running
     → IfOk result (λ s. new ≡ points_after old s.executed b)
 
--- a slice has no more port operations than steps
+-- it has at most as many port operations as a slice may have steps
 abbrev pub HasFew : SliceResult → Type 0
 HasFew s = length s.traffic ≤ 4096
 
