@@ -69,7 +69,7 @@ class Streams(unittest.TestCase):
         self.finds(signal.SIGKILL, "the kernel ended with status -9")
 
     def test_a_kernel_that_hangs_is_found(self):
-        self.finds(signal.SIGSTOP, "(in five seconds|for five seconds|TimeoutError)")
+        self.finds(signal.SIGSTOP, "((in|for) 9 seconds|TimeoutError)")
 
     def test_a_number_alone_makes_the_same_stream(self):
         stream = made(7, 12345)
