@@ -1,5 +1,6 @@
 //! Lines whose tokens and faults were worked out by hand from the manual.
 
+use crate::rows::{Asked, compare};
 use asm_expr::expression::Binary;
 use asm_lex::laws::{fault_ends_tokens, tokens_are_spelled};
 use asm_lex::lexer::tokens;
@@ -9,165 +10,134 @@ use asm_syntax::token::{Placed, Token};
 use i80_rows::instruction::Instr;
 use std::alloc::{AllocError, Global};
 
-fn push_bytes(shown: &mut String, bytes: &[u8]) -> Result<(), AllocError> {
+pub(crate) fn put_bytes(bytes: &[u8], told: &mut String) -> Result<(), AllocError> {
     for byte in bytes {
-        shown.push(char::from(*byte))?;
+        told.push(char::from(*byte))?;
     }
     Ok(())
 }
 
-fn push_text(shown: &mut String, text: &[u8]) -> Result<(), AllocError> {
-    shown.push('<')?;
-    push_bytes(shown, text)?;
-    shown.push('>')?;
-    Ok(())
-}
-
-// The keywords of the lines below.
-fn keyword_name(keyword: Keyword) -> &'static [u8] {
+/// The name of a keyword of the rows.
+pub(crate) fn keyword_name(keyword: Keyword) -> &'static str {
     match keyword {
-        Keyword::Mnemonic(Mnemonic::Alone(Instr::Nop)) => b"Mnemonic(Alone(Nop))",
-        Keyword::Mnemonic(Mnemonic::MoveImmediate) => b"Mnemonic(MoveImmediate)",
-        Keyword::Register(RegisterWord::A) => b"Register(A)",
-        Keyword::Directive(Directive::Bytes) => b"Directive(Bytes)",
-        Keyword::Infix(Binary::And) => b"Infix(And)",
-        _ => b"another keyword",
+        Keyword::Mnemonic(Mnemonic::Alone(Instr::Nop)) => "Mnemonic(Alone(Nop))",
+        Keyword::Mnemonic(Mnemonic::MoveImmediate) => "Mnemonic(MoveImmediate)",
+        Keyword::Register(RegisterWord::A) => "Register(A)",
+        Keyword::Directive(Directive::Bytes) => "Directive(Bytes)",
+        Keyword::Directive(Directive::EndIf) => "Directive(EndIf)",
+        Keyword::Infix(Binary::And) => "Infix(And)",
+        _ => "another keyword",
     }
 }
 
-fn push_token(shown: &mut String, token: Token<'_>) -> Result<(), AllocError> {
+fn put_text(text: &[u8], told: &mut String) -> Result<(), AllocError> {
+    told.push('<')?;
+    put_bytes(text, told)?;
+    told.push('>')
+}
+
+fn put_token(token: Token<'_>, told: &mut String) -> Result<(), AllocError> {
     match token {
-        Token::Name(word) => push_bytes(shown, word.letters),
-        Token::Keyword(keyword) => push_bytes(shown, keyword_name(keyword)),
-        Token::Overlong => push_bytes(shown, b"overlong"),
-        Token::Number(n) => Ok(write!(shown, "#{n}")?),
-        Token::Text(text) => push_text(shown, text),
-        Token::Sign(sign) => push_bytes(shown, &[sign]),
+        Token::Name(word) => put_bytes(word.letters, told),
+        Token::Keyword(keyword) => told.push_str(keyword_name(keyword)),
+        Token::Overlong => told.push_str("overlong"),
+        Token::Number(n) => write!(told, "#{n}"),
+        Token::Text(text) => put_text(text, told),
+        Token::Sign(sign) => told.push(char::from(sign)),
     }
 }
 
 // Tokens after their columns.
-fn push_all(shown: &mut String, found: &[Placed<'_>]) -> Result<(), AllocError> {
+fn put_all(found: &[Placed<'_>], told: &mut String) -> Result<(), AllocError> {
     for placed in found {
-        let space = if shown.is_empty() { "" } else { " " };
-        write!(shown, "{space}{}:", placed.column)?;
-        push_token(shown, placed.token)?;
+        if !told.is_empty() {
+            told.push(' ')?;
+        }
+        write!(told, "{}:", placed.column)?;
+        put_token(placed.token, told)?;
     }
     Ok(())
 }
 
-// A line's tokens after their columns, or its fault.
-fn push_line(shown: &mut String, alloc: Global, line: &[u8]) -> Result<(), AllocError> {
+/// A line's tokens after their columns, or its fault.
+pub(crate) fn put_tokens(alloc: Global, line: &[u8], told: &mut String) -> Result<(), AllocError> {
     match tokens(alloc, line) {
-        Ok(found) => push_all(shown, found.as_slice()),
-        Err(LineFault::OutOfMemory) => Err(AllocError),
-        Err(fault) => Ok(write!(shown, "{fault}")?),
+        Ok(found) => put_all(found.as_slice(), told),
+        Err(fault) => write!(told, "{fault}"),
     }
 }
 
-const LINES: [(&[u8], &str); 18] = [
-    (b"", ""),
-    (b" \t ", ""),
-    (b"; anything: 99999 'x \x00 \xc3\xa9", ""),
-    (b"loop: nop;", "1:loop 5:: 7:Mnemonic(Alone(Nop))"),
-    (
-        b"\tMVI a,5 ; five",
-        "2:Mnemonic(MoveImmediate) 6:Register(A) 7:, 8:#5",
-    ),
-    (b"DB'A',$-1", "1:Directive(Bytes) 3:<A> 6:, 7:$ 8:- 9:#1"),
-    (b"?a@1 @ ?", "1:?a@1 6:@ 8:?"),
-    (b"1?", "1:#1 2:?"),
-    (b"'it''s;' ''''", "1:<it''s;> 10:<''>"),
-    (b"''' ' x", "1:<'' > 7:x"),
-    (b"1and 2", "1 Number"),
-    (
-        b"1 AND 2 and 3 And 4",
-        "1:#1 3:Infix(And) 7:#2 9:Infix(And) 13:#3 15:Infix(And) 19:#4",
-    ),
-    (
-        b"!\"#%&()*+,-./:<=>[\\]^_`{|}~",
-        "1:! 2:\" 3:# 4:% 5:& 6:( 7:) 8:* 9:+ 10:, 11:- 12:. 13:/ \
-14:: 15:< 16:= 17:> 18:[ 19:\\ 20:] 21:^ 22:_ 23:` 24:{ 25:| 26:} 27:~",
-    ),
-    (b"0ffh 0FFH 10h", "1:#255 6:#255 11:#16"),
-    (
-        b"1B 0B 0BH 1D 17q 17O 65535",
-        "1:#1 4:#0 7:#11 11:#1 14:#15 18:#15 22:#65535",
-    ),
-    (
-        b"1111111111111111B 177777Q 0FFFFH 000065535d",
-        "1:#65535 19:#65535 27:#65535 34:#65535",
-    ),
-    (
-        b"a234567890123456789012345678901",
-        "1:a234567890123456789012345678901",
-    ),
-    (
-        b"a2345678901234567890123456789012,1",
-        "1:overlong 33:, 34:#1",
-    ),
-];
+// A line, and its tokens after their columns.
+const LINES: &str = "\
+; anything: 99999 'x \0 é |
+ |
+ \t  |
+loop: nop; | 1:loop 5:: 7:Mnemonic(Alone(Nop))
+\tMVI a,5 ; five | 2:Mnemonic(MoveImmediate) 6:Register(A) 7:, 8:#5
+DB'A',$-1 | 1:Directive(Bytes) 3:<A> 6:, 7:$ 8:- 9:#1
+?a@1 @ ? | 1:?a@1 6:@ 8:?
+1? | 1:#1 2:?
+'it''s;' '''' | 1:<it''s;> 10:<''>
+''' ' x | 1:<'' > 7:x
+1and 2 | 1 Number
+1 AND 2 and 3 And 4 | 1:#1 3:Infix(And) 7:#2 9:Infix(And) 13:#3 15:Infix(And) 19:#4
+!\"#%&()*+,-./:<=>[\\]^_`{|}~ | 1:! 2:\" 3:# 4:% 5:& 6:( 7:) 8:* 9:+ 10:, 11:- 12:. 13:/ \
+14:: 15:< 16:= 17:> 18:[ 19:\\ 20:] 21:^ 22:_ 23:` 24:{ 25:| 26:} 27:~
+0ffh 0FFH 10h | 1:#255 6:#255 11:#16
+1B 0B 0BH 1D 17q 17O 65535 | 1:#1 4:#0 7:#11 11:#1 14:#15 18:#15 22:#65535
+1111111111111111B 177777Q 0FFFFH 000065535d | 1:#65535 19:#65535 27:#65535 34:#65535
+a234567890123456789012345678901 | 1:a234567890123456789012345678901
+a2345678901234567890123456789012,1 | 1:overlong 33:, 34:#1
+";
 
-const FAULTS: [(&[u8], &str); 34] = [
-    (b"NOP\r", "4 Character"),
-    (b"NOP \r; x", "5 Character"),
-    (b"\x0b", "1 Character"),
-    (b" \x0c", "2 Character"),
-    (b"A\x00", "2 Character"),
-    (b"\x7f", "1 Character"),
-    (b"\xef\xbb\xbfNOP", "1 Character"),
-    (b"NOP \xc3\xa9", "5 Character"),
-    (b"99999 NOP", "1 Number"),
-    (b"65536", "1 Number"),
-    (b"DB 10000H", "4 Number"),
-    (b"200000O", "1 Number"),
-    (b"10000000000000000B", "1 Number"),
-    (b"4294967296", "1 Number"),
-    (b"2B", "1 Number"),
-    (b"0FB", "1 Number"),
-    (b"0A", "1 Number"),
-    (b"5AND 3", "1 Number"),
-    (b"8Q", "1 Number"),
-    (b"9O", "1 Number"),
-    (b"0FD", "1 Number"),
-    (b"0GH", "1 Number"),
-    (b"1HH", "1 Number"),
-    (b"A,0A,0B", "3 Number"),
-    (b"''", "1 Text"),
-    (b"DB ''", "4 Text"),
-    (b"'abc", "1 Text"),
-    (b"'", "1 Text"),
-    (b"'''", "1 Text"),
-    (b"'A'B'", "5 Text"),
-    (b"'a\tb'", "1 Text"),
-    (b"DB 'a', '\xc3\xa9'", "9 Text"),
-    (b"DB 'a, 99999 \x00", "4 Text"),
-    (b"0A 'a", "1 Number"),
-];
-
-fn is_shown(alloc: Global, line: &[u8], wanted: &str) -> Result<bool, AllocError> {
-    let mut shown = String::new(alloc);
-    let outcome = push_line(&mut shown, alloc, line);
-    let is_so = shown.as_str() == wanted;
-    drop(shown);
-    outcome?;
-    Ok(is_so)
-}
+// A line, and its leftmost fault.
+const FAULTS: &str = "\
+NOP\r | 4 Character
+NOP \r; x | 5 Character
+\x0b | 1 Character
+ \x0c | 2 Character
+A\0 | 2 Character
+\x7f | 1 Character
+\u{feff}NOP | 1 Character
+NOP é | 5 Character
+99999 NOP | 1 Number
+65536 | 1 Number
+DB 10000H | 4 Number
+200000O | 1 Number
+10000000000000000B | 1 Number
+4294967296 | 1 Number
+2B | 1 Number
+0FB | 1 Number
+0A | 1 Number
+5AND 3 | 1 Number
+8Q | 1 Number
+9O | 1 Number
+0FD | 1 Number
+0GH | 1 Number
+1HH | 1 Number
+A,0A,0B | 3 Number
+'' | 1 Text
+DB '' | 4 Text
+'abc | 1 Text
+' | 1 Text
+''' | 1 Text
+'A'B' | 5 Text
+'a\tb' | 1 Text
+DB 'a', 'é' | 9 Text
+DB 'a, 99999 \0 | 4 Text
+0A 'a | 1 Number
+";
 
 #[test]
 fn tokens_of_lines(rt: HostRuntime) {
     tokens_are_spelled();
-    for (line, wanted) in &LINES {
-        assert!(rt; is_shown(rt.alloc(), line, wanted) == Ok(true), "{wanted}");
-    }
+    compare(&rt, Asked::Tokens, LINES);
 }
 
 #[test]
 fn leftmost_faults(rt: HostRuntime) {
     fault_ends_tokens();
-    for (line, wanted) in &FAULTS {
-        assert!(rt; is_shown(rt.alloc(), line, wanted) == Ok(true), "{wanted}");
-    }
+    compare(&rt, Asked::Tokens, FAULTS);
 }
 
 // A beginning, so many of one character, and an end.

@@ -1,39 +1,46 @@
 //! The words of the language, and how its faults are printed.
 
+use crate::rows::{Asked, compare};
+use crate::token_tests::keyword_name;
 use asm_syntax::fault::{AsmFault, FaultKind, LineFault};
-use asm_syntax::keyword::{Directive, Keyword, Mnemonic, keyword_of};
+use asm_syntax::keyword::keyword_of;
 use asm_syntax::statement::{MOST_LINES, Statement, Statements};
 use i80_rows::instruction::{ByteOperation, Cond, Instr, Pair, Reg, WordOperation};
 use std::alloc::{AllocError, Global};
 
+/// The keyword that a word is.
+pub(crate) fn put_keyword(word: &[u8], told: &mut String) -> Result<(), AllocError> {
+    match keyword_of(word) {
+        Some(keyword) => told.push_str(keyword_name(keyword)),
+        None => told.push_str("a name"),
+    }
+}
+
 // Words of other assemblers and of the 8085, and no words, are names.
-const NAMES: [&[u8]; 7] = [b"NOPE", b"NO", b"", b"RIM", b"SIM", b"SPH", b"BCD"];
+const WORDS: &str = "\
+nop | Mnemonic(Alone(Nop))
+EndIf | Directive(EndIf)
+NOPE | a name
+NO | a name
+ | a name
+RIM | a name
+SIM | a name
+SPH | a name
+BCD | a name
+";
 
 #[test]
 fn words_are_found_in_either_case(rt: HostRuntime) {
-    assert!(rt;
-        matches!(
-            keyword_of(b"nop"),
-            Some(Keyword::Mnemonic(Mnemonic::Alone(Instr::Nop)))
-        )
-    );
-    assert!(rt;
-        matches!(
-            keyword_of(b"EndIf"),
-            Some(Keyword::Directive(Directive::EndIf))
-        )
-    );
-    for name in &NAMES {
-        assert!(rt; keyword_of(name).is_none());
-    }
+    compare(&rt, Asked::Keyword, WORDS);
 }
 
 #[test]
 fn instructions_take_their_operands(rt: HostRuntime) {
-    assert!(rt; ByteOperation::Mvi(Reg::M).instruction(5) == Instr::Mvi(Reg::M, 5));
-    assert!(rt; ByteOperation::In.instruction(5) == Instr::In(5));
-    assert!(rt; WordOperation::Lxi(Pair::Sp).instruction(5) == Instr::Lxi(Pair::Sp, 5));
-    assert!(rt; WordOperation::CallIf(Cond::Minus).instruction(5) == Instr::CallIf(Cond::Minus, 5));
+    let are_so = ByteOperation::Mvi(Reg::M).instruction(5) == Instr::Mvi(Reg::M, 5)
+        && ByteOperation::In.instruction(5) == Instr::In(5)
+        && WordOperation::Lxi(Pair::Sp).instruction(5) == Instr::Lxi(Pair::Sp, 5)
+        && WordOperation::CallIf(Cond::Minus).instruction(5) == Instr::CallIf(Cond::Minus, 5);
+    assert!(rt; are_so);
 }
 
 // Whether a fault in a cell and one on a line are printed so.
@@ -52,11 +59,6 @@ fn are_printed(alloc: Global, wanted: &str) -> Result<bool, AllocError> {
     Ok(text.as_str() == wanted)
 }
 
-#[test]
-fn faults_are_printed_with_their_place(rt: HostRuntime) {
-    assert!(rt; are_printed(rt.alloc(), "12:3 Conditional; 3 ByteRange") == Ok(true));
-}
-
 // How many statements there are after three were put there.
 fn count_of_three(alloc: Global) -> Result<usize, AllocError> {
     let mut statements = Statements::new(alloc);
@@ -72,6 +74,7 @@ fn count_of_three(alloc: Global) -> Result<usize, AllocError> {
 }
 
 #[test]
-fn statements_keep_their_lines(rt: HostRuntime) {
+fn faults_are_printed_and_statements_counted(rt: HostRuntime) {
+    assert!(rt; are_printed(rt.alloc(), "12:3 Conditional; 3 ByteRange") == Ok(true));
     assert!(rt; count_of_three(rt.alloc()) == Ok(3));
 }

@@ -1,7 +1,9 @@
 //! The exit numbers, and a writer that can't be flushed.
+use crate::expect::expect_row;
 use crate::words::Word;
 use cli_io::report::flush_report;
 use cli_io::status::Status;
+use std::alloc::Global;
 use std::io;
 use std::io::{ErrorKind, Write};
 
@@ -15,8 +17,8 @@ const NUMBERS: [(Status, u8); 5] = [
 
 #[test]
 fn statuses_have_their_numbers(rt: HostRuntime) {
-    for (status, number) in &NUMBERS {
-        assert!(rt; status.number() == *number, "{number}");
+    for (row, (status, number)) in NUMBERS.iter().enumerate() {
+        expect_row(&rt, status.number() == *number, row);
     }
 }
 
@@ -37,14 +39,23 @@ impl Write for Unflushed {
 #[test]
 fn a_writer_that_cannot_be_flushed_has_failed(rt: HostRuntime) {
     let (status, mut writer) = Word::Step.run(rt.alloc(), b"76".as_slice(), Unflushed);
-    assert!(rt; status == Status::Success);
-    assert!(rt; flush_report(status, &mut writer) == Status::Failed);
+    let flushed = flush_report(status, &mut writer);
+    assert!(rt; (status, flushed) == (Status::Success, Status::Failed));
+}
+
+fn flushed(alloc: Global, status: Status) -> Status {
+    let mut written = Vec::<u8>::new(alloc);
+    let flushed = flush_report(status, &mut written);
+    drop(written);
+    flushed
 }
 
 #[test]
 fn a_writer_that_is_flushed_leaves_the_status(rt: HostRuntime) {
-    for status in [Status::Success, Status::Refused, Status::OutOfMemory] {
-        let mut written = Vec::<u8>::new(rt.alloc());
-        assert!(rt; flush_report(status, &mut written) == status);
+    for (row, status) in [Status::Success, Status::Refused, Status::OutOfMemory]
+        .iter()
+        .enumerate()
+    {
+        expect_row(&rt, flushed(rt.alloc(), *status) == *status, row);
     }
 }

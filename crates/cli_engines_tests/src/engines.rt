@@ -1,5 +1,6 @@
 //! The engines over readers and writers that give and take little at a time, and that fail. What they answer
 //! to whole inputs is a table of the clients.
+use crate::expect::expect_row;
 use crate::words::Word;
 use base_test_kit::fakes::{Narrow, Slow};
 use cli_io::status::Status;
@@ -39,7 +40,9 @@ fn long_text(alloc: Global, tail: &[u8]) -> Result<Vec<u8>, AllocError> {
 
 fn is_read(alloc: Global, word: Word, reader: Slow<'_>, wanted: Status, text: &[u8]) -> bool {
     let (status, written) = word.run(alloc, reader, Vec::new(alloc));
-    status == wanted && written.as_slice() == text
+    let is_text = written.as_slice() == text;
+    drop(written);
+    status == wanted && is_text
 }
 
 /// What follows one byte more than a text may have, the status, and the answer.
@@ -71,11 +74,8 @@ fn is_tail_told(
 // The reader would fail behind the first byte that no text has there.
 #[test]
 fn bad_text_past_the_limit_is_told_at_once(rt: HostRuntime) -> Result<(), AllocError> {
-    for (place, (tail, status, line)) in TAILS.iter().enumerate() {
-        assert!(rt;
-            is_tail_told(rt.alloc(), tail, *status, line)?,
-            "row {place}"
-        );
+    for (row, (tail, status, line)) in TAILS.iter().enumerate() {
+        expect_row(&rt, is_tail_told(rt.alloc(), tail, *status, line)?, row);
     }
     Ok(())
 }
@@ -87,6 +87,7 @@ const PIECED: [(Word, &str, &str); 3] = [
     (AT_100H, BYTES, LISTING),
 ];
 
+// Whether an input is read so in pieces of this length.
 fn is_read_in_pieces(alloc: Global, word: Word, input: &str, piece: usize, text: &str) -> bool {
     let reader = Slow {
         rest: input.as_bytes(),
@@ -97,13 +98,19 @@ fn is_read_in_pieces(alloc: Global, word: Word, input: &str, piece: usize, text:
     is_read(alloc, word, reader, Status::Success, text.as_bytes())
 }
 
+fn are_read_in_pieces(alloc: Global, word: Word, input: &str, text: &str) -> bool {
+    for piece in [1usize, 2, 7, 4096] {
+        if !is_read_in_pieces(alloc, word, input, piece, text) {
+            return false;
+        }
+    }
+    true
+}
+
 #[test]
 fn pieces_and_interruptions_change_nothing(rt: HostRuntime) {
-    for (word, input, text) in &PIECED {
-        for piece in [1usize, 2, 7, 4096] {
-            let is_read = is_read_in_pieces(rt.alloc(), *word, input, piece, text);
-            assert!(rt; is_read, "{input} in pieces of {piece}");
-        }
+    for (row, (word, input, text)) in PIECED.iter().enumerate() {
+        expect_row(&rt, are_read_in_pieces(rt.alloc(), *word, input, text), row);
     }
 }
 
@@ -127,8 +134,8 @@ fn writes_nothing(alloc: Global, word: Word, input: &str) -> bool {
 
 #[test]
 fn a_failed_read_writes_nothing(rt: HostRuntime) {
-    for (word, input) in &FAILED {
-        assert!(rt; writes_nothing(rt.alloc(), *word, input), "{input}");
+    for (row, (word, input)) in FAILED.iter().enumerate() {
+        expect_row(&rt, writes_nothing(rt.alloc(), *word, input), row);
     }
 }
 
@@ -153,7 +160,8 @@ const ROOMS: [(Word, &str, &str, usize); 16] = [
 ];
 
 fn is_front(status: Status, bytes: &[u8], text: &[u8], room: usize) -> bool {
-    let wanted = if room == text.len() {
+    let is_whole = room == text.len();
+    let wanted = if is_whole {
         Status::Success
     } else {
         Status::Failed
@@ -167,13 +175,15 @@ fn leaves_a_front(alloc: Global, word: Word, input: &str, text: &str, room: usiz
         room,
     };
     let (status, writer) = word.run(alloc, input.as_bytes(), writer);
-    is_front(status, writer.bytes.as_slice(), text.as_bytes(), room)
+    let is_front = is_front(status, writer.bytes.as_slice(), text.as_bytes(), room);
+    drop(writer);
+    is_front
 }
 
 #[test]
 fn a_failed_write_leaves_a_front_of_the_text(rt: HostRuntime) {
-    for (word, input, text, room) in &ROOMS {
+    for (row, (word, input, text, room)) in ROOMS.iter().enumerate() {
         let is_front = leaves_a_front(rt.alloc(), *word, input, text, *room);
-        assert!(rt; is_front, "{input} with room for {room}");
+        expect_row(&rt, is_front, row);
     }
 }

@@ -1,4 +1,5 @@
 //! The names of faults.
+use crate::expect::expect_row;
 use asm_syntax::fault::FaultKind;
 use std::alloc::{AllocError, Global};
 
@@ -38,8 +39,8 @@ fn is_displayed(alloc: Global, kind: FaultKind, name: &str) -> Result<bool, Allo
 
 #[test]
 fn a_fault_is_displayed_by_its_name(rt: HostRuntime) -> Result<(), AllocError> {
-    for (kind, name) in &NAMES {
-        assert!(rt; is_displayed(rt.alloc(), *kind, name)?, "{name}");
+    for (row, (kind, name)) in NAMES.iter().enumerate() {
+        expect_row(&rt, is_displayed(rt.alloc(), *kind, name)?, row);
     }
     Ok(())
 }

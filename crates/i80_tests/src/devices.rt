@@ -2,7 +2,6 @@
 use i80_devs::devices::{Devices, PressFault};
 use i80_exec::ports::{PortOperation, Ports};
 use std::alloc::{AllocError, Global};
-use std::process::Abort;
 
 /// What a table does with the devices, or finds in them.
 #[derive(Clone, Copy)]
@@ -82,15 +81,7 @@ fn first_wrong_of_new(alloc: Global, acts: &[Act]) -> Result<Option<usize>, Allo
     wrong
 }
 
-/// Goes through a table with new devices.
-fn play(rt: &impl Abort, alloc: Global, acts: &[Act]) {
-    match first_wrong_of_new(alloc, acts) {
-        Ok(None) => {}
-        Ok(Some(row)) => panic!(rt; "row {row}"),
-        Err(AllocError) => panic!(rt; "out of memory"),
-    }
-}
-
+// Input is told, taken, and kept in the traffic.
 const INPUT: [Act; 10] = [
     Act::Typed(&[0x41]),
     Act::Waiting(1),
@@ -121,11 +112,7 @@ const INPUT: [Act; 10] = [
     Act::In(9, 0xff),
 ];
 
-#[test]
-fn input_is_told_taken_and_kept_in_the_traffic(rt: HostRuntime) {
-    play(&rt, rt.alloc(), &INPUT);
-}
-
+// Typed bytes come in order.
 const TYPED: [Act; 8] = [
     Act::Typed(b"ab"),
     Act::Typed(b""),
@@ -137,11 +124,7 @@ const TYPED: [Act; 8] = [
     Act::In(1, 0),
 ];
 
-#[test]
-fn typed_bytes_come_in_order(rt: HostRuntime) {
-    play(&rt, rt.alloc(), &TYPED);
-}
-
+// Switches and lamps are what was last set.
 const LIGHTS: [Act; 9] = [
     Act::Lights(0, 0),
     Act::Switches(0x5a),
@@ -175,11 +158,7 @@ const LIGHTS: [Act; 9] = [
     ]),
 ];
 
-#[test]
-fn switches_and_lamps_are_what_was_last_set(rt: HostRuntime) {
-    play(&rt, rt.alloc(), &LIGHTS);
-}
-
+// One request is latched at most.
 const REQUESTS: [Act; 11] = [
     Act::Request(None),
     Act::Press(8, Err(PressFault::Vector)),
@@ -194,11 +173,7 @@ const REQUESTS: [Act; 11] = [
     Act::Request(Some(0)),
 ];
 
-#[test]
-fn one_request_is_latched_at_most(rt: HostRuntime) {
-    play(&rt, rt.alloc(), &REQUESTS);
-}
-
+// Cleared devices are new ones.
 const CLEARED: [Act; 11] = [
     Act::Typed(b"ab"),
     Act::Switches(0x5a),
@@ -213,7 +188,23 @@ const CLEARED: [Act; 11] = [
     Act::In(1, 0),
 ];
 
+/// What each table is about.
+const TABLES: [(&str, &[Act]); 5] = [
+    ("input", &INPUT),
+    ("typed bytes", &TYPED),
+    ("switches and lamps", &LIGHTS),
+    ("requests", &REQUESTS),
+    ("cleared devices", &CLEARED),
+];
+
+// New devices go through each table.
 #[test]
-fn cleared_devices_are_new_ones(rt: HostRuntime) {
-    play(&rt, rt.alloc(), &CLEARED);
+fn devices_do_as_the_tables_tell(rt: HostRuntime) {
+    for (about, acts) in TABLES {
+        match first_wrong_of_new(rt.alloc(), acts) {
+            Ok(None) => {}
+            Ok(Some(row)) => panic!(rt; "{about}, row {row}"),
+            Err(AllocError) => panic!(rt; "out of memory"),
+        }
+    }
 }

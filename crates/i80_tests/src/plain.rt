@@ -449,7 +449,7 @@ impl Plain {
         self.flags = SIGN * (value > 127) as u8
             + ZERO * (value == 0) as u8
             + AUXILIARY * auxiliary as u8
-            + PARITY * (count_ones(value) % 2 == 0) as u8
+            + PARITY * (value.count_ones() % 2 == 0) as u8
             + FIXED
             + CARRY * carry as u8;
         value
@@ -470,17 +470,6 @@ fn register_array(regs: &Registers) -> [u8; 8] {
 
 fn word(high: u8, low: u8) -> u16 {
     high as u16 * 256 + low as u16
-}
-
-fn count_ones(byte: u8) -> u8 {
-    byte % 2
-        + byte / 2 % 2
-        + byte / 4 % 2
-        + byte / 8 % 2
-        + byte / 16 % 2
-        + byte / 32 % 2
-        + byte / 64 % 2
-        + byte / 128
 }
 
 /// The flags that a byte has, without its bits 5 and 3.

@@ -16,6 +16,11 @@ fn expect(rt: &impl Abort, computed: AluResult, value: u8, flag_byte: u8) {
     assert!(rt; is_so, "not {value:x} with flags {flag_byte:x}");
 }
 
+// Stops where a row of a table isn't so.
+fn expect_row(rt: &impl Abort, is_so: bool, row: usize) {
+    assert!(rt; is_so, "row {row}");
+}
+
 #[test]
 fn arithmetic_sets_the_flags_of_the_manual(rt: HostRuntime) {
     let clear = Flags::from_byte(NO_FLAGS);
@@ -58,15 +63,24 @@ fn the_flag_byte_has_three_fixed_bits(rt: HostRuntime) {
         (Flags::all_clear(), 0x02),
         (Flags::from_byte(0xae), 0x86),
     ];
-    for (flags, byte) in flags {
-        assert_eq!(rt; flags.to_byte(), byte);
+    for (row, (flags, byte)) in flags.iter().enumerate() {
+        expect_row(&rt, flags.to_byte() == *byte, row);
     }
     let flags = Flags::from_byte(0x51);
-    assert!(rt; !flags.sign() && flags.zero() && flags.auxiliary_carry());
-    assert!(rt; !flags.parity() && flags.carry());
+    let read = (
+        flags.sign(),
+        flags.zero(),
+        flags.auxiliary_carry(),
+        flags.parity(),
+        flags.carry(),
+    );
+    assert!(rt; read == (false, true, true, false, true));
 }
 
-const DECODED: [(&[u8], Result<(Instr, u8), DecodeFault>); 9] = [
+type Decoded = Result<(Instr, u8), DecodeFault>;
+
+// What both boards read alike.
+const DECODED: [(&[u8], Decoded); 9] = [
     (&[], Err(DecodeFault::Short { needed: 1 })),
     (&[0xc3, 0x34], Err(DecodeFault::Short { needed: 3 })),
     (&[0x3e], Err(DecodeFault::Short { needed: 2 })),
@@ -78,20 +92,21 @@ const DECODED: [(&[u8], Result<(Instr, u8), DecodeFault>); 9] = [
     (&[0xcf], Ok((Instr::Rst(Vector::V1), 1))),
 ];
 
-const UNDEFINED: [u8; 12] = [
-    0x08, 0x10, 0x18, 0x20, 0x28, 0x30, 0x38, 0xcb, 0xd9, 0xdd, 0xed, 0xfd,
-];
+// Whether bytes are read so on a strict board, and so on one with aliases.
+fn are_read(bytes: &[u8], strict: Decoded, aliased: Decoded) -> bool {
+    decode(bytes) == strict
+        && decode_on(bytes, Board::Strict) == strict
+        && decode_on(bytes, Board::Aliases) == aliased
+}
 
 #[test]
-fn decode_tells_undefined_and_short_apart(rt: HostRuntime) {
+fn both_boards_read_the_defined_opcodes_alike(rt: HostRuntime) {
     for (row, (bytes, want)) in DECODED.iter().enumerate() {
-        assert!(rt; decode(bytes) == *want, "row {row}");
-    }
-    for opcode in UNDEFINED {
-        let decoded = decode(&[opcode, 0, 0]);
-        assert!(rt; decoded == Err(DecodeFault::Undefined), "{opcode:x}");
+        expect_row(&rt, are_read(bytes, *want, *want), row);
     }
 }
+
+const UNDEFINED: Decoded = Err(DecodeFault::Undefined);
 
 // What MAME's 8080 takes the twelve undefined opcodes for, with 34 and 12 behind them.
 const ALIASES: [(u8, Instr, u8); 12] = [
@@ -109,22 +124,16 @@ const ALIASES: [(u8, Instr, u8); 12] = [
     (0xfd, Instr::Call(0x1234), 3),
 ];
 
-#[test]
-fn a_board_with_aliases_defines_the_undefined_opcodes(rt: HostRuntime) {
-    for (opcode, instr, size) in ALIASES {
-        let code = [opcode, 0x34, 0x12];
-        let aliased = decode_on(&code, Board::Aliases);
-        assert!(rt; aliased == Ok((instr, size)), "{opcode:x}");
-        let strict = decode_on(&code, Board::Strict);
-        assert!(rt; strict == Err(DecodeFault::Undefined), "{opcode:x}");
-    }
+// Whether an opcode, of which a board with aliases makes this, is undefined on a strict one.
+fn is_alias(opcode: u8, instr: Instr, size: u8) -> bool {
+    are_read(&[opcode, 0x34, 0x12], UNDEFINED, Ok((instr, size)))
+        && decode(&[opcode, 0, 0]) == UNDEFINED
 }
 
 #[test]
-fn both_boards_read_the_defined_opcodes_alike(rt: HostRuntime) {
-    for (row, (bytes, want)) in DECODED.iter().enumerate() {
-        assert!(rt; decode_on(bytes, Board::Strict) == *want, "row {row}");
-        assert!(rt; decode_on(bytes, Board::Aliases) == *want, "row {row}");
+fn a_board_with_aliases_defines_the_undefined_opcodes(rt: HostRuntime) {
+    for (row, (opcode, instr, size)) in ALIASES.iter().enumerate() {
+        expect_row(&rt, is_alias(*opcode, *instr, *size), row);
     }
     let cut_off = decode_on(&[0xcb, 0x34], Board::Aliases);
     assert!(rt; cut_off == Err(DecodeFault::Short { needed: 3 }));

@@ -68,16 +68,14 @@ impl Ports for Recorder {
     }
 }
 
-/// A machine after power-on but for these bytes from an address on, with PC there.
-fn machine_at(alloc: Global, address: u16, bytes: &[u8]) -> Result<Machine, AllocError> {
-    let mut machine = Machine::new(alloc)?;
+/// Puts bytes into a machine from an address on, and PC there.
+fn set_up(machine: &mut Machine, address: u16, bytes: &[u8]) {
     let mut next = address;
     for byte in bytes {
         machine.poke(next, *byte);
         next = next.wrapping_add(1);
     }
     machine.set_pc(address);
-    Ok(machine)
 }
 
 /// What an instruction answers, how many operations of ports it does, and the first of them.
@@ -99,15 +97,14 @@ fn step_plain(alloc: Global, plain: &mut Plain) -> Result<Outcome, AllocError> {
 
 /// The registers after power-on, but for these.
 fn registers(a: u8, flag_byte: u8, hl: u16, sp: u16, pc: u16) -> Registers {
-    let [h, l] = hl.to_be_bytes();
     Registers {
         a,
         b: 0,
         c: 0,
         d: 0,
         e: 0,
-        h,
-        l,
+        h: (hl / 256) as u8,
+        l: (hl % 256) as u8,
         flags: Flags::from_byte(flag_byte),
         sp,
         pc,
@@ -191,23 +188,23 @@ fn first_wrong_at(
     bytes: &[u8],
     acts: &[Act],
 ) -> Result<Option<usize>, AllocError> {
-    let mut machine = machine_at(alloc, address, bytes)?;
+    let mut machine = Machine::new(alloc)?;
+    set_up(&mut machine, address, bytes);
     let wrong = first_wrong(alloc, &mut machine, acts);
     drop(machine);
     wrong
 }
 
-/// Goes through a table with a machine that has these bytes from an address on, and PC there. The place
-/// tells tables apart.
+/// Goes through a table with a machine that has these bytes from an address on, and PC there.
 fn play(
     rt: &(impl Abort + AllocGlobal),
-    place: usize,
+    about: &str,
     (address, bytes): (u16, &[u8]),
     acts: &[Act],
 ) {
     match first_wrong_at(rt.alloc(), address, bytes, acts) {
         Ok(None) => {}
-        Ok(Some(row)) => panic!(rt; "table {place}, row {row}"),
+        Ok(Some(row)) => panic!(rt; "{about}, {bytes:?}, row {row}"),
         Err(AllocError) => panic!(rt; "out of memory"),
     }
 }
@@ -235,11 +232,12 @@ fn acts_of(computed: &Computed) -> [Act; 3] {
 
 #[test]
 fn arithmetic_reads_and_writes_the_registers(rt: HostRuntime) {
-    for (place, computed) in COMPUTED.iter().enumerate() {
-        play(&rt, place, (0, &computed.0), &acts_of(computed));
+    for computed in &COMPUTED {
+        play(&rt, "code", (0, &computed.0), &acts_of(computed));
     }
 }
 
+// A call pushes the next address, and RET pops it.
 const CALL: [Act; 7] = [
     Act::Poke(0x1234, 0xc9),
     Act::Step(Stepped::Called {
@@ -252,11 +250,6 @@ const CALL: [Act; 7] = [
     Act::Step(Stepped::Returned { slot: 0xfffe }),
     Act::Registers(0, 0x02, 0, 0x0000, 0x0103),
 ];
-
-#[test]
-fn a_call_pushes_the_next_address_and_ret_pops_it(rt: HostRuntime) {
-    play(&rt, 0, (0x0100, &[0xcd, 0x34, 0x12]), &CALL);
-}
 
 // A call and a return by DD and D9, and a jump by CB; a NOP where the board is strict again.
 const ALIASES: [Act; 10] = [
@@ -274,12 +267,6 @@ const ALIASES: [Act; 10] = [
     Act::SetBoard(Board::Strict),
     Act::Step(Stepped::Done),
 ];
-
-#[test]
-fn a_program_runs_through_aliases(rt: HostRuntime) {
-    let code = [0xdd, 0x34, 0x12, 0xcb, 0x12, 0x34];
-    play(&rt, 0, (0x0100, &code), &ALIASES);
-}
 
 const CALLED: Stepped = Stepped::Called {
     slot: 0xfffe,
@@ -306,15 +293,15 @@ const UNDEFINED: [(u8, Stepped, u16, u16); 12] = [
 
 #[test]
 fn each_undefined_opcode_acts_where_it_is_to(rt: HostRuntime) {
-    for (place, (opcode, stepped, sp, pc)) in UNDEFINED.iter().enumerate() {
+    for (opcode, stepped, sp, pc) in UNDEFINED {
         let acts = [
-            Act::Step(Stepped::Undefined { opcode: *opcode }),
+            Act::Step(Stepped::Undefined { opcode }),
             Act::Registers(0, 0x02, 0, 0, 0x0200),
             Act::SetBoard(Board::Aliases),
-            Act::Step(*stepped),
-            Act::Registers(0, 0x02, 0, *sp, *pc),
+            Act::Step(stepped),
+            Act::Registers(0, 0x02, 0, sp, pc),
         ];
-        play(&rt, place, (0x0200, &[*opcode, 0x34, 0x12]), &acts);
+        play(&rt, "undefined", (0x0200, &[opcode, 0x34, 0x12]), &acts);
     }
 }
 
@@ -325,11 +312,6 @@ const KEPT: [Act; 4] = [
     Act::Step(Stepped::Done),
     Act::Registers(0x11, 0x02, 0, 0, 1),
 ];
-
-#[test]
-fn registers_leave_the_option_out(rt: HostRuntime) {
-    play(&rt, 0, (0, &[0x38]), &KEPT);
-}
 
 // An address, the code there, and what a step of it answers, with SP and PC after it.
 const SHORT: [(u16, [u8; 3], Stepped, u16, u16); 4] = [
@@ -350,12 +332,13 @@ const SHORT: [(u16, [u8; 3], Stepped, u16, u16); 4] = [
 
 #[test]
 fn short_runs_leave_the_registers_of_the_manual(rt: HostRuntime) {
-    for (place, (address, code, stepped, sp, pc)) in SHORT.iter().enumerate() {
-        let acts = [Act::Step(*stepped), Act::Registers(0, 0x02, 0, *sp, *pc)];
-        play(&rt, place, (*address, code), &acts);
+    for (address, code, stepped, sp, pc) in SHORT {
+        let acts = [Act::Step(stepped), Act::Registers(0, 0x02, 0, sp, pc)];
+        play(&rt, "short run", (address, &code), &acts);
     }
 }
 
+// A popped flag byte keeps its fixed bits.
 const POPPED: [Act; 6] = [
     Act::Poke(0x2000, 0xff),
     Act::Set(0, 0x02, 0, 0x2000),
@@ -365,11 +348,7 @@ const POPPED: [Act; 6] = [
     Act::Registers(0, 0xd7, 0, 0x2000, 2),
 ];
 
-#[test]
-fn a_popped_flag_byte_keeps_its_fixed_bits(rt: HostRuntime) {
-    play(&rt, 0, (0, &[0xf1, 0xf5]), &POPPED);
-}
-
+// Words lie low byte first.
 const WORDS: [Act; 12] = [
     Act::Set(0, 0x02, 0x1234, 0x3000),
     Act::Poke(0x3001, 0xff),
@@ -385,11 +364,7 @@ const WORDS: [Act; 12] = [
     Act::Peek(0x4034, 0x5a),
 ];
 
-#[test]
-fn words_lie_low_byte_first(rt: HostRuntime) {
-    play(&rt, 0, (0, &[0x22, 0x00, 0x30, 0xe3, 0x36, 0x5a]), &WORDS);
-}
-
+// EI takes effect after the next instruction.
 const ARMED: [Act; 10] = [
     Act::Set(0, 0x02, 0, 0x0100),
     Act::Step(Stepped::Done),
@@ -406,11 +381,7 @@ const ARMED: [Act; 10] = [
     Act::Accept(None),
 ];
 
-#[test]
-fn ei_takes_effect_after_the_next_instruction(rt: HostRuntime) {
-    play(&rt, 0, (0, &[0xfb, 0x00, 0x00]), &ARMED);
-}
-
+// IN and OUT are the ports' operations.
 const OPERATIONS: [Act; 5] = [
     Act::Operate(PortOperation::In {
         port: 9,
@@ -425,32 +396,53 @@ const OPERATIONS: [Act; 5] = [
     Act::Registers(0x5a, 0x02, 0, 0, 5),
 ];
 
+/// What each table is about, the address and the code.
+const TABLES: [(&str, u16, &[u8], &[Act]); 7] = [
+    ("a call", 0x0100, &[0xcd, 0x34, 0x12], &CALL),
+    (
+        "aliases",
+        0x0100,
+        &[0xdd, 0x34, 0x12, 0xcb, 0x12, 0x34],
+        &ALIASES,
+    ),
+    ("the option", 0, &[0x38], &KEPT),
+    ("flags", 0, &[0xf1, 0xf5], &POPPED),
+    ("words", 0, &[0x22, 0x00, 0x30, 0xe3, 0x36, 0x5a], &WORDS),
+    ("EI", 0, &[0xfb, 0x00, 0x00], &ARMED),
+    ("ports", 0, &[0xdb, 0x09, 0xd3, 0x01, 0x76], &OPERATIONS),
+];
+
 #[test]
-fn in_and_out_are_the_ports_operations(rt: HostRuntime) {
-    play(&rt, 0, (0, &[0xdb, 0x09, 0xd3, 0x01, 0x76]), &OPERATIONS);
+fn machines_do_as_the_tables_tell(rt: HostRuntime) {
+    for (about, address, code, acts) in TABLES {
+        play(&rt, about, (address, code), acts);
+    }
 }
 
 /// How many states an instruction starts from: each value of A, with AC and CY set and clear.
 const STATES: u16 = 1024;
+
+/// The interrupt state in a state.
+fn interrupts_numbered(number: u16) -> Interrupts {
+    match number % 3 {
+        0 => Interrupts::Off,
+        1 => Interrupts::Arming,
+        _ => Interrupts::On,
+    }
+}
 
 /// The registers in a state. S, Z and P are as the last bits of A.
 fn registers_numbered(number: u16) -> Registers {
     let a = (number % 256) as u8;
     let carries = (number >> 4 & 0x10 | number >> 9) as u8;
     let flag_byte = (a & 6) << 5 | carries | (a & 1) << 2;
-    Registers {
-        b: 0x20,
-        c: (number.wrapping_mul(41) % 256) as u8,
-        d: 0x30,
-        e: 0xfe,
-        flags: Flags::from_byte(flag_byte),
-        interrupts: match number % 3 {
-            0 => Interrupts::Off,
-            1 => Interrupts::Arming,
-            _ => Interrupts::On,
-        },
-        ..registers(a, 0, 0x4fff, 0x6001, 0x0100)
-    }
+    let mut regs = registers(a, flag_byte, 0x4fff, 0x6001, 0x0100);
+    regs.b = 0x20;
+    regs.c = (number.wrapping_mul(41) % 256) as u8;
+    regs.d = 0x30;
+    regs.e = 0xfe;
+    regs.interrupts = interrupts_numbered(number);
+    regs
 }
 
 // Whether the machines are alike after the instruction at PC from these registers.
@@ -512,17 +504,25 @@ fn first_apart(
     }
 }
 
-fn machine_on(alloc: Global, board: Board, code: &[u8]) -> Result<Machine, AllocError> {
-    let mut machine = machine_at(alloc, 0x0100, code)?;
-    machine.set_board(board);
-    Ok(machine)
+fn first_apart_from(
+    alloc: Global,
+    fast: &mut Machine,
+    board: Board,
+    code: &[u8],
+) -> Result<Option<Apart>, AllocError> {
+    set_up(fast, 0x0100, code);
+    fast.set_board(board);
+    let mut plain = Plain::new(alloc, board, 0x0100, code)?;
+    let apart = first_apart(alloc, fast, &mut plain);
+    drop(plain);
+    apart
 }
 
 fn first_apart_on(alloc: Global, board: Board, opcode: u8) -> Result<Option<Apart>, AllocError> {
-    let code = [opcode, 0x0f, 0x9a];
-    let mut fast = machine_on(alloc, board, &code)?;
-    let mut plain = Plain::new(alloc, board, 0x0100, &code)?;
-    first_apart(alloc, &mut fast, &mut plain)
+    let mut fast = Machine::new(alloc)?;
+    let apart = first_apart_from(alloc, &mut fast, board, &[opcode, 0x0f, 0x9a]);
+    drop(fast);
+    apart
 }
 
 #[test]

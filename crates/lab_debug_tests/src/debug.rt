@@ -1,13 +1,13 @@
 //! What a debugger is answered: stops, Steps, breakpoints and views.
 
+use crate::plays::expect_plays;
 use lab_shown::step::StepKind::{In, Out, Over};
 use lab_test_kit::ask::Ask::{Code, Frames, Info, Scopes, Source, Variables};
+use lab_test_kit::script::Play;
 use lab_test_kit::script::Step::{
     Attach, Debug, Detach, Dump, Instruction, Interrupt, Line, Lines, Load, Pause, Press,
     Registers, Reset, Resume, Show, Slice, Start,
 };
-use lab_test_kit::script::{Play, wrong_plays};
-use std::alloc::AllocError;
 use std::rt::HostRuntime;
 
 /// A call, whose routine returns at once.
@@ -16,8 +16,10 @@ pub const CALL: &str = "MAIN: CALL F1\nHLT\nF1: RET\nEND MAIN";
 /// A routine that calls itself once.
 pub const RECURSION: &str = "MAIN: MVI B,2\nCALL REC\nHLT\nREC: DCR B\nCNZ REC\nRET\nEND MAIN";
 
-// What each play is about, its steps, and the lines that they show.
-const PLAYS: [Play; 17] = [
+// Each play says what it is about, its steps, and the lines that they show.
+
+// Steps.
+const STEPS: [Play; 7] = [
     (
         "a breakpoint in a routine and a step out",
         &[
@@ -69,6 +71,74 @@ Accepted
 0005 0000 Off 0
 ",
     ),
+    // The routine's inner call is on the line where the Step begins, and isn't stopped in.
+    (
+        "a step over a recursive call",
+        &[
+            Debug(RECURSION, &[5]),
+            Lines("p", &[]),
+            Line(Over),
+            Slice(10),
+            Show(Frames(0, 1)),
+        ],
+        "3 Stop(Breakpoint)\nAccepted\n4 Stop(Step)\n1 REC 6 p 000A\nof 2\n",
+    ),
+    // What drops a Step: a Detach, a Pause, the run's end.
+    (
+        "a step is dropped",
+        &[
+            Debug(CALL, &[1]),
+            Line(Out),
+            Slice(1),
+            Detach,
+            Attach,
+            Pause,
+            Line(In),
+            Pause,
+            Resume,
+            Slice(10),
+        ],
+        "\
+0 Stop(Breakpoint)
+Accepted
+1 More
+Accepted
+Accepted
+Accepted
+Accepted
+Accepted
+Accepted
+2 End(Halted)
+",
+    ),
+    (
+        "a step out with no frame never ends",
+        &[Debug(CALL, &[1]), Instruction(Out), Slice(10)],
+        "0 Stop(Breakpoint)\nAccepted\n3 End(Halted)\n",
+    ),
+    // An accepted request is a call for a Step over and for the frames.
+    (
+        "a step over an accepted request",
+        &[
+            Debug("MAIN: EI\nNOP\nNOP\nHLT\nORG 8\nRET\nEND MAIN", &[3]),
+            Lines("p", &[]),
+            Press(1),
+            Line(Over),
+            Slice(1),
+            Slice(10),
+            Registers,
+        ],
+        "2 Stop(Breakpoint)\nAccepted\nAccepted\n1 More\n1 Stop(Step)\n0002 0000 Off 0\n",
+    ),
+];
+
+#[test]
+fn steps_stop_where_they_must(rt: HostRuntime) {
+    expect_plays(&rt, &STEPS);
+}
+
+// Breakpoints, and which reason comes first.
+const STOPS: [Play; 7] = [
     (
         "a breakpoint in a recursion",
         &[
@@ -95,18 +165,6 @@ Accepted
 1 REC 6 p 000A
 of 2
 ",
-    ),
-    // The routine's inner call is on the line where the Step begins, and isn't stopped in.
-    (
-        "a step over a recursive call",
-        &[
-            Debug(RECURSION, &[5]),
-            Lines("p", &[]),
-            Line(Over),
-            Slice(10),
-            Show(Frames(0, 1)),
-        ],
-        "3 Stop(Breakpoint)\nAccepted\n4 Stop(Step)\n1 REC 6 p 000A\nof 2\n",
     ),
     // A load changes where a line begins: the bits follow it.
     (
@@ -185,39 +243,64 @@ Accepted
 2 End(Halted)
 ",
     ),
-    // What drops a Step: a Detach, a Pause, the run's end.
+    // Halted comes before a breakpoint, a breakpoint before a Step, and both before the wait.
     (
-        "a step is dropped",
+        "reasons come by rank",
         &[
-            Debug(CALL, &[1]),
-            Line(Out),
-            Slice(1),
-            Detach,
-            Attach,
-            Pause,
-            Line(In),
-            Pause,
+            Debug("MAIN: HLT\nEI\nHLT\nNOP\nEND MAIN", &[2, 4]),
+            Start(1),
+            Slice(10),
+            Instruction(In),
+            Slice(10),
+            Instruction(In),
+            Slice(10),
             Resume,
             Slice(10),
         ],
         "\
+1 End(Halted)
+Started
 0 Stop(Breakpoint)
 Accepted
-1 More
+1 Stop(Step)
 Accepted
+1 Stop(Breakpoint)
 Accepted
-Accepted
-Accepted
-Accepted
-Accepted
-2 End(Halted)
+0 Waiting
 ",
     ),
     (
-        "a step out with no frame never ends",
-        &[Debug(CALL, &[1]), Instruction(Out), Slice(10)],
-        "0 Stop(Breakpoint)\nAccepted\n3 End(Halted)\n",
+        "no debugger meets no breakpoint",
+        &[Load("p", CALL), Lines("p", &[1, 2, 3]), Start(0), Slice(10)],
+        "\
+Loaded { start: Some(0) }
+line 1 true
+line 2 true
+line 3 true
+Started
+3 End(Halted)
+",
     ),
+    // Code that writes over itself keeps its origin, and its breakpoint is met.
+    (
+        "an overwritten statement keeps its breakpoint",
+        &[
+            Debug("MAIN: MVI A,76H\nSTA X\nX: NOP\nEND MAIN", &[3]),
+            Show(Code(5, 1)),
+            Resume,
+            Slice(10),
+        ],
+        "2 Stop(Breakpoint)\n0005 76 HLT\nAccepted\n1 End(Halted)\n",
+    ),
+];
+
+#[test]
+fn breakpoints_are_met(rt: HostRuntime) {
+    expect_plays(&rt, &STOPS);
+}
+
+// Runs, lists and views.
+const RUNS: [Play; 3] = [
     (
         "a run is paused and resumed",
         &[
@@ -270,46 +353,6 @@ Accepted
 Interrupted
 ",
     ),
-    // Halted comes before a breakpoint, a breakpoint before a Step, and both before the wait.
-    (
-        "reasons come by rank",
-        &[
-            Debug("MAIN: HLT\nEI\nHLT\nNOP\nEND MAIN", &[2, 4]),
-            Start(1),
-            Slice(10),
-            Instruction(In),
-            Slice(10),
-            Instruction(In),
-            Slice(10),
-            Resume,
-            Slice(10),
-        ],
-        "\
-1 End(Halted)
-Started
-0 Stop(Breakpoint)
-Accepted
-1 Stop(Step)
-Accepted
-1 Stop(Breakpoint)
-Accepted
-0 Waiting
-",
-    ),
-    // An accepted request is a call for a Step over and for the frames.
-    (
-        "a step over an accepted request",
-        &[
-            Debug("MAIN: EI\nNOP\nNOP\nHLT\nORG 8\nRET\nEND MAIN", &[3]),
-            Lines("p", &[]),
-            Press(1),
-            Line(Over),
-            Slice(1),
-            Slice(10),
-            Registers,
-        ],
-        "2 Stop(Breakpoint)\nAccepted\nAccepted\n1 More\n1 Stop(Step)\n0002 0000 Off 0\n",
-    ),
     (
         "lists keep their order",
         &[
@@ -356,29 +399,6 @@ refused: no text has this path
 ",
     ),
     (
-        "no debugger meets no breakpoint",
-        &[Load("p", CALL), Lines("p", &[1, 2, 3]), Start(0), Slice(10)],
-        "\
-Loaded { start: Some(0) }
-line 1 true
-line 2 true
-line 3 true
-Started
-3 End(Halted)
-",
-    ),
-    // Code that writes over itself keeps its origin, and its breakpoint is met.
-    (
-        "an overwritten statement keeps its breakpoint",
-        &[
-            Debug("MAIN: MVI A,76H\nSTA X\nX: NOP\nEND MAIN", &[3]),
-            Show(Code(5, 1)),
-            Resume,
-            Slice(10),
-        ],
-        "2 Stop(Breakpoint)\n0005 76 HLT\nAccepted\n1 End(Halted)\n",
-    ),
-    (
         "views at their ends",
         &[
             Load("p", "ORG 0FFFFH\nDB 0C3H\nEND 0"),
@@ -403,8 +423,6 @@ FFFF C3 00 00 JMP 00000H
 ];
 
 #[test]
-fn debuggers_are_answered(rt: HostRuntime) -> Result<(), AllocError> {
-    let wrong = wrong_plays(rt.alloc(), &PLAYS)?;
-    assert!(rt; wrong.is_empty(), "{wrong}");
-    Ok(())
+fn runs_lists_and_views_are_answered(rt: HostRuntime) {
+    expect_plays(&rt, &RUNS);
 }

@@ -1,50 +1,62 @@
 //! A change by hand to a value of a thousand digits.
-ghost use Rattle.std.specs.Prelude.{IfOk};
-ghost use Rattle.lab_core.specs.Events.{Fits};
 
+use crate::plays::expect_told;
 use lab_core::event::Event;
 use lab_core::lab::Lab;
 use lab_test_kit::script::{poke, tell_event};
 use std::alloc::{AllocError, Global};
 use std::rt::HostRuntime;
 
-// A change of A by hand to a value that is this digit a thousand times.
-fn thousand(alloc: Global, digit: &str) -> Result<Event, AllocError>
-    ensures { IfOk result (λ event. Fits event) }
-{
+// This digit a thousand times.
+fn thousand(alloc: Global, digit: &str) -> Result<String, AllocError> {
     let mut value = String::new(alloc);
     for _ in 0..1000u16 {
         value.push_str(digit)?;
     }
-    poke(alloc, 1, "A", value.as_str())
+    Ok(value)
+}
+
+// Changes A by hand to a value that is this digit a thousand times.
+fn tell_thousand(
+    alloc: Global,
+    lab: &mut Lab,
+    digit: &str,
+    told: &mut String,
+) -> Result<(), AllocError> {
+    let value = thousand(alloc, digit)?;
+    let event = poke(alloc, 1, "A", value.as_str());
+    drop(value);
+    tell_event(lab, event?, told)
 }
 
 // What a stopped run's board answers to a thousand nines and to a thousand zeros.
 fn thousands(alloc: Global, lab: &mut Lab, told: &mut String) -> Result<(), AllocError> {
-    for event in [Event::Attach, Event::Start(0), Event::Pause] {
-        tell_event(lab, event, told)?;
-    }
-    for digit in ["9", "0"] {
-        let event = thousand(alloc, digit)?;
-        tell_event(lab, event, told)?;
-    }
-    Ok(())
+    tell_event(lab, Event::Attach, told)?;
+    tell_event(lab, Event::Start(0), told)?;
+    tell_event(lab, Event::Pause, told)?;
+    tell_thousand(alloc, lab, "9", told)?;
+    tell_thousand(alloc, lab, "0", told)
 }
 
-#[test]
-fn values_of_a_thousand_digits_are_read(rt: HostRuntime) -> Result<(), AllocError> {
-    let mut lab = Lab::new(rt.alloc())?;
-    let mut told = String::new(rt.alloc());
-    let put = thousands(rt.alloc(), &mut lab, &mut told);
+fn tell_on_new(alloc: Global, told: &mut String) -> Result<(), AllocError> {
+    let mut lab = Lab::new(alloc)?;
+    let put = thousands(alloc, &mut lab, told);
     drop(lab);
-    put?;
-    let wanted = "\
+    put
+}
+
+const TOLD: &str = "\
 Accepted
 Started
 Accepted
 refused: the value is no number that fits there
 Poked 000H
 ";
-    assert!(rt; told.as_str() == wanted, "{told}");
-    Ok(())
+
+#[test]
+fn values_of_a_thousand_digits_are_read(rt: HostRuntime) {
+    let mut told = String::new(rt.alloc());
+    let put = tell_on_new(rt.alloc(), &mut told);
+    expect_told(&rt, put.is_ok() && told.as_str() == TOLD, told.as_str());
+    drop(told);
 }

@@ -10,4 +10,6 @@ mod digits;
 #[cfg(test)]
 mod plain;
 #[cfg(test)]
+mod plays;
+#[cfg(test)]
 mod pokes;

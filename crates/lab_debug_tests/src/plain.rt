@@ -3,15 +3,14 @@
 ghost use Rattle.std.specs.Prelude.{IfOk};
 ghost use Rattle.lab_core.specs.Events.{Fits};
 
+use crate::plays::expect_told;
 use i80_exec::registers::{Registers, Stepped};
-use lab_core::answer::{Answer, SliceOutcome, Stop};
 use lab_core::event::{Event, StepRequest};
-use lab_core::fault::EventFault;
 use lab_core::lab::Lab;
 use lab_frames::frame::Frame;
 use lab_frames::frames::Frames;
 use lab_shown::step::{Granularity, StepKind};
-use lab_test_kit::script::{is_done, poke};
+use lab_test_kit::script::{poke, tell_event};
 use std::alloc::{AllocError, Global};
 use std::rt::HostRuntime;
 
@@ -97,31 +96,31 @@ fn entry_of(opcode: u8, before: &Registers, after: &Registers) -> Entry {
     }
 }
 
-fn is_stopped(answer: Result<Answer, EventFault>) -> bool {
-    let is_so = matches!(
-        &answer,
-        Ok(Answer::Sliced {
-            executed: 1,
-            outcome: SliceOutcome::Stop(Stop::Step),
-            ..
-        })
-    );
-    drop(answer);
+// Does an event. Gives whether the answer begins with this text.
+fn answers(alloc: Global, lab: &mut Lab, event: Event, wanted: &str) -> bool
+    requires { Fits event }
+{
+    let mut told = String::new(alloc);
+    let put = tell_event(lab, event, &mut told);
+    let is_so = put.is_ok() && told.as_str().starts_with(wanted);
+    drop(told);
     is_so
 }
 
-// Makes one step of a stopped run. None where the run has ended.
-fn step(lab: &mut Lab) -> Option<Entry> {
-    let before = lab.regs();
-    let opcode = lab.peek(before.pc);
+// Asks for one step.
+fn is_asked(alloc: Global, lab: &mut Lab) -> bool {
     let request = StepRequest {
         kind: StepKind::In,
         granularity: Granularity::Instruction,
     };
-    if !is_done(lab, &Event::Step(request)) {
-        return None;
-    }
-    if !is_stopped(lab.apply(&Event::Slice(1))) {
+    answers(alloc, lab, Event::Step(request), "Accepted")
+}
+
+// Makes one step of a stopped run. None where the run has ended.
+fn step(alloc: Global, lab: &mut Lab) -> Option<Entry> {
+    let before = lab.regs();
+    let opcode = lab.peek(before.pc);
+    if !is_asked(alloc, lab) || !answers(alloc, lab, Event::Slice(1), "1 Stop(Step)") {
         return None;
     }
     let after = lab.regs();
@@ -150,33 +149,30 @@ fn next(number: u32) -> u32 {
     number.wrapping_mul(1_664_525).wrapping_add(1_013_904_223)
 }
 
+fn poke_at_pc(alloc: Global, lab: &Lab, opcode: u8) -> Result<Event, AllocError>
+    ensures { IfOk result (λ event. Fits event) }
+{
+    let name = format!(in alloc; "{:04x}", lab.regs().pc)?;
+    let event = poke_number(alloc, 5, name.as_str(), u16::from(opcode));
+    drop(name);
+    event
+}
+
 // A change by hand: SP, PC, or the byte at PC.
 fn change(alloc: Global, lab: &mut Lab, number: u32) -> Result<bool, AllocError> {
     let some = (number >> 16) as u16;
     let event = match number >> 30 {
         0 => poke_number(alloc, 1, "SP", PLACES[(some % 8) as usize])?,
         1 => poke_number(alloc, 1, "PC", some % 0x0200)?,
-        _ => {
-            let name = format!(in alloc; "{:04x}", lab.regs().pc)?;
-            let event = poke_number(
-                alloc,
-                5,
-                name.as_str(),
-                u16::from(OPCODES[(some % 16) as usize]),
-            )?;
-            drop(name);
-            event
-        }
+        _ => poke_at_pc(alloc, lab, OPCODES[(some % 16) as usize])?,
     };
-    let is_so = is_done(lab, &event);
-    drop(event);
-    Ok(is_so)
+    Ok(answers(alloc, lab, event, "Poked"))
 }
 
 // A run that is stopped at its beginning.
-fn begin(lab: &mut Lab) -> bool {
-    let _ = is_done(lab, &Event::Interrupt);
-    is_done(lab, &Event::Start(0)) && is_done(lab, &Event::Pause)
+fn begin(alloc: Global, lab: &mut Lab) -> bool {
+    let _ = answers(alloc, lab, Event::Interrupt, "");
+    answers(alloc, lab, Event::Start(0), "Started") && answers(alloc, lab, Event::Pause, "Accepted")
 }
 
 /// How many steps of a run are looked at, from its beginning.
@@ -193,11 +189,11 @@ fn go_on(
     if number & 0x0300_0000 == 0 {
         return Ok(change(alloc, lab, number)? && are_live(entries, lab.frames()));
     }
-    match step(lab) {
+    match step(alloc, lab) {
         Some(entry) if entries.len() < LENGTH => entries.push(entry)?,
         _ => {
             entries.clear();
-            if !begin(lab) {
+            if !begin(alloc, lab) {
                 return Ok(false);
             }
         }
@@ -206,28 +202,40 @@ fn go_on(
 }
 
 // The first of so many changes and steps after which the frames are others.
-fn first_apart(alloc: Global, count: u32) -> Result<Option<u32>, AllocError> {
-    let mut lab = Lab::new(alloc)?;
+fn first_apart(alloc: Global, lab: &mut Lab, count: u32) -> Result<Option<u32>, AllocError> {
     let mut entries = Vec::new(alloc);
     let mut number = 1u32;
-    let mut apart = None;
-    if !is_done(&mut lab, &Event::Attach) || !begin(&mut lab) {
-        apart = Some(0);
-    }
     for place in 0..count {
         number = next(number);
-        if apart.is_none() && !go_on(alloc, &mut lab, &mut entries, number)? {
-            apart = Some(place);
+        if !go_on(alloc, lab, &mut entries, number)? {
+            return Ok(Some(place));
         }
     }
+    Ok(None)
+}
+
+// Tells after how many changes and steps a new board's frames aren't those of the rule, if they ever aren't.
+fn tell_apart(alloc: Global, lab: &mut Lab, told: &mut String) -> Result<(), AllocError> {
+    if !answers(alloc, lab, Event::Attach, "Accepted") || !begin(alloc, lab) {
+        return told.push_str("no run");
+    }
+    match first_apart(alloc, lab, 20_000)? {
+        Some(place) => write!(told, "after {place} changes and steps"),
+        None => Ok(()),
+    }
+}
+
+fn tell_on_new(alloc: Global, told: &mut String) -> Result<(), AllocError> {
+    let mut lab = Lab::new(alloc)?;
+    let put = tell_apart(alloc, &mut lab, told);
     drop(lab);
-    Ok(apart)
+    put
 }
 
 #[test]
-fn frames_are_those_of_the_rule(rt: HostRuntime) -> Result<(), AllocError> {
-    if let Some(place) = first_apart(rt.alloc(), 20_000)? {
-        panic!(rt; "after {place} changes and steps");
-    }
-    Ok(())
+fn frames_are_those_of_the_rule(rt: HostRuntime) {
+    let mut told = String::new(rt.alloc());
+    let put = tell_on_new(rt.alloc(), &mut told);
+    expect_told(&rt, put.is_ok() && told.is_empty(), told.as_str());
+    drop(told);
 }

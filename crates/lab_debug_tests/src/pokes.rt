@@ -1,13 +1,13 @@
 //! Changes of a stopped run's machine by hand: which places and values there are, and what a change leaves.
 use crate::debug::{CALL, RECURSION};
+use crate::plays::expect_plays;
 use lab_shown::step::StepKind::{In, Out, Over};
 use lab_test_kit::ask::Ask::{Frames, Variables};
 use lab_test_kit::script::Step::{
     Attach, Byte, Debug, Frame, Instruction, Interrupt, Line, Lines, Load, Pause, Poke, Pokes,
     Press, Registers, Resume, Show, Slice, Start,
 };
-use lab_test_kit::script::{Changes, Play, wrong_plays};
-use std::alloc::AllocError;
+use lab_test_kit::script::{Changes, Play};
 use std::rt::HostRuntime;
 
 /// A loop without an end.
@@ -55,8 +55,10 @@ const NO_NUMBERS: [Changes; 3] = [
     (5, &["0000"], &["256"]),
 ];
 
-// What each play is about, its steps, and the lines that they show.
-const PLAYS: [Play; 11] = [
+// Each play says what it is about, its steps, and the lines that they show.
+
+// Places, values and refusals.
+const PLACES: [Play; 5] = [
     (
         "a register and a byte of a stopped run",
         &[
@@ -181,6 +183,15 @@ A=000H B=000H C=000H D=000H E=000H H=000H L=000H SP=00000H PC=00000H
 A=000H B=000H C=000H D=000H E=000H H=000H L=000H SP=00000H PC=00000H 
 ",
     ),
+];
+
+#[test]
+fn places_are_changed(rt: HostRuntime) {
+    expect_plays(&rt, &PLACES);
+}
+
+// What returns, Steps and waits make of a change.
+const RETURNS: [Play; 6] = [
     // The return pops a zero, far below the frame, which stays; the call makes another one.
     (
         "SP below a live slot",
@@ -331,8 +342,6 @@ Interrupted
 ];
 
 #[test]
-fn machines_are_changed_by_hand(rt: HostRuntime) -> Result<(), AllocError> {
-    let wrong = wrong_plays(rt.alloc(), &PLAYS)?;
-    assert!(rt; wrong.is_empty(), "{wrong}");
-    Ok(())
+fn runs_go_on_from_changes(rt: HostRuntime) {
+    expect_plays(&rt, &RETURNS);
 }

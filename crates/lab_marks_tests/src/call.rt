@@ -9,6 +9,7 @@ use lab_shown::place::Place;
 use lab_test_kit::script::{Step, event_of, tell_event};
 use lab_test_kit::told::put_told;
 use std::alloc::{AllocError, Global};
+use std::process::Abort;
 
 /// A call as a test writes it, or a look at what was left.
 #[derive(Clone, Copy)]
@@ -120,6 +121,23 @@ fn apply(
     }
 }
 
+fn begin(
+    alloc: Global,
+    bench: &mut Bench,
+    text: &'static str,
+    begun: &mut String,
+) -> Result<(), AllocError> {
+    apply(alloc, bench, Step::Load("p", text), begun)?;
+    apply(alloc, bench, Step::Start(0), begun)
+}
+
+fn put_begun(told: &mut String, begun: &str) -> Result<(), AllocError> {
+    if begun == "Loaded { start: None }\nStarted\n" {
+        return Ok(());
+    }
+    told.push_str(begun)
+}
+
 // Adds what the load and the start answer, where it is something else.
 fn start(
     alloc: Global,
@@ -128,30 +146,30 @@ fn start(
     told: &mut String,
 ) -> Result<(), AllocError> {
     let mut begun = String::new(alloc);
-    apply(alloc, bench, Step::Load("p", text), &mut begun)?;
-    apply(alloc, bench, Step::Start(0), &mut begun)?;
-    if begun.as_str() != "Loaded { start: None }\nStarted\n" {
-        told.push_str(begun.as_str())?;
-    }
-    Ok(())
+    let put = match begin(alloc, bench, text, &mut begun) {
+        Ok(()) => put_begun(told, begun.as_str()),
+        Err(error) => Err(error),
+    };
+    drop(begun);
+    put
 }
 
 // Makes a call, and adds what it answers.
 fn make(alloc: Global, bench: &mut Bench, call: Call, told: &mut String) -> Result<(), AllocError> {
     match call {
-        Call::Apply(step) => apply(alloc, bench, step, told)?,
-        Call::Start(text) => start(alloc, bench, text, told)?,
+        Call::Apply(step) => return apply(alloc, bench, step, told),
+        Call::Start(text) => return start(alloc, bench, text, told),
         Call::Address(address) => bench.marks.add_address(address),
-        Call::Watch(place) => bench.marks.watch(place)?,
-        Call::SliceTo(n) => slice_to(bench, n, told)?,
+        Call::Watch(place) => return bench.marks.watch(place),
+        Call::SliceTo(n) => return slice_to(bench, n, told),
         Call::Write(address, bytes) => bench.lab.write(address, bytes),
         Call::SetRegisters(pc, sp, interrupts) => {
             bench.lab.set_registers(registers(pc, sp, interrupts));
         }
-        Call::Moment => keep(bench)?,
-        Call::PutBack => put_back(bench, told)?,
+        Call::Moment => return keep(bench),
+        Call::PutBack => return put_back(bench, told),
         Call::Hold => bench.lab.hold(),
-        Call::Registers => put_registers(told, &bench.lab)?,
+        Call::Registers => return put_registers(told, &bench.lab),
     }
     Ok(())
 }
@@ -168,27 +186,40 @@ fn make_all(
     Ok(())
 }
 
-// What calls show on a new board.
-fn show_calls(alloc: Global, calls: &[Call]) -> Result<String, AllocError> {
+// Adds what calls show on a new board.
+fn put_calls(alloc: Global, calls: &[Call], told: &mut String) -> Result<(), AllocError> {
     let mut bench = new_bench(alloc)?;
-    let mut told = String::new(alloc);
-    let outcome = make_all(alloc, &mut bench, calls, &mut told);
+    let made = make_all(alloc, &mut bench, calls, told);
     drop(bench);
-    outcome?;
-    Ok(told)
+    made
 }
 
 /// What a play is about, its calls, and the lines that they show on a new board.
 pub type Play = (&'static str, &'static [Call], &'static str);
 
-/// What each of these plays that shows other lines is about, and what it shows: nothing where all are right.
-pub fn wrong_plays(alloc: Global, plays: &[Play]) -> Result<String, AllocError> {
-    let mut wrong = String::new(alloc);
-    for (about, calls, wanted) in plays {
-        let told = show_calls(alloc, calls)?;
-        if told.as_str() != *wanted {
-            write!(wrong, "{about}: {}\n", told.as_str())?;
-        }
+// Adds what a play is about and what it shows, where it shows other lines.
+fn put_wrong(alloc: Global, play: &Play, wrong: &mut String) -> Result<(), AllocError> {
+    let (about, calls, wanted) = *play;
+    let mut told = String::new(alloc);
+    put_calls(alloc, calls, &mut told)?;
+    if told.as_str() != wanted {
+        write!(wrong, "{about}: {}\n", told.as_str())?;
     }
-    Ok(wrong)
+    Ok(())
+}
+
+fn put_all_wrong(alloc: Global, plays: &[Play], wrong: &mut String) -> Result<(), AllocError> {
+    for play in plays {
+        put_wrong(alloc, play, wrong)?;
+    }
+    Ok(())
+}
+
+/// Expects each of these plays to show its lines. The message is what those are about that show others, and
+/// what they show. It is put together here for all tests, since doing so takes many cases of a proof.
+pub fn expect_right<R: Abort>(rt: &R, alloc: Global, plays: &[Play]) -> Result<(), AllocError> {
+    let mut wrong = String::new(alloc);
+    put_all_wrong(alloc, plays, &mut wrong)?;
+    assert!(rt; wrong.is_empty(), "{wrong}");
+    Ok(())
 }

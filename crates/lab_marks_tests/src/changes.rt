@@ -1,6 +1,6 @@
 //! Bytes and registers that are set by hand, in any state of the run.
 use crate::call::Call::{Apply, Registers, SetRegisters, Start, Write};
-use crate::call::{Play, wrong_plays};
+use crate::call::{Play, expect_right};
 use i80_exec::registers::Interrupts::{Off, On};
 use lab_shown::step::StepKind::In;
 use lab_test_kit::ask::Ask::{Code, Info, Variables};
@@ -11,7 +11,7 @@ use std::rt::HostRuntime;
 /// A loop without an end, and elsewhere a program that stores A.
 const TWO: &str = "X: JMP X\nORG 100H\nSTA 200H\nHLT";
 
-const BYTES: [Play; 5] = [
+const BYTES: &[Play] = &[
     (
         "behind FFFFH bytes go on at 0000H, and of none nothing is written",
         &[
@@ -83,7 +83,7 @@ A=002H B=000H C=000H D=000H E=000H H=000H L=000H SP=00000H PC=00003H
     ),
 ];
 
-const REGISTERS: [Play; 7] = [
+const REGISTERS: &[Play] = &[
     (
         "registers are set while a program runs",
         &[
@@ -209,14 +209,10 @@ Accepted
 
 #[test]
 fn bytes_are_written_by_hand(rt: HostRuntime) -> Result<(), AllocError> {
-    let wrong = wrong_plays(rt.alloc(), &BYTES)?;
-    assert!(rt; wrong.is_empty(), "{wrong}");
-    Ok(())
+    expect_right(&rt, rt.alloc(), BYTES)
 }
 
 #[test]
 fn registers_are_set_by_hand(rt: HostRuntime) -> Result<(), AllocError> {
-    let wrong = wrong_plays(rt.alloc(), &REGISTERS)?;
-    assert!(rt; wrong.is_empty(), "{wrong}");
-    Ok(())
+    expect_right(&rt, rt.alloc(), REGISTERS)
 }

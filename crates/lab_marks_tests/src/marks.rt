@@ -1,6 +1,6 @@
 //! Slices that end at a mark: how many steps they make, and what they leave of the marks.
 use crate::call::Call::{Address, Apply, Registers, SliceTo, Start, Watch, Write};
-use crate::call::{Play, wrong_plays};
+use crate::call::{Play, expect_right};
 use lab_core::laws::first_mark_is_least;
 use lab_shown::place::Place::{A, B, C, D, E, H, L, Memory, Pc, Sp};
 use lab_shown::step::StepKind::Over;
@@ -10,7 +10,7 @@ use std::alloc::AllocError;
 use std::rt::HostRuntime;
 
 // Addresses to which PC comes.
-const ADDRESSES: [Play; 7] = [
+const ADDRESSES: &[Play] = &[
     (
         "PC comes from FFFFH to a mark at 0000H",
         &[
@@ -124,7 +124,7 @@ not met from 0005
 ];
 
 // Places that a step changes.
-const PLACES: [Play; 6] = [
+const PLACES: &[Play] = &[
     // The second STA stores what is there.
     (
         "a byte that is changed and changed back leads to two marks",
@@ -248,7 +248,7 @@ not met from 000E 1>1 2>2 3>3 4>4 5>5 6>6 7>7
 ];
 
 // Marks beside the reasons for which a run makes no further step.
-const REASONS: [Play; 6] = [
+const REASONS: &[Play] = &[
     (
         "a breakpoint before a mark, and at one",
         &[
@@ -324,7 +324,7 @@ met from 0001 0>5
 ];
 
 // Where PC was before the last step.
-const SITES: [Play; 5] = [
+const SITES: &[Play] = &[
     // CALL at 0003H pushes 0006H.
     (
         "a byte that CALL writes, and a slice of no step",
@@ -401,28 +401,20 @@ fn law_stands() {
 
 #[test]
 fn slices_end_where_pc_comes_to_a_mark(rt: HostRuntime) -> Result<(), AllocError> {
-    let wrong = wrong_plays(rt.alloc(), &ADDRESSES)?;
-    assert!(rt; wrong.is_empty(), "{wrong}");
-    Ok(())
+    expect_right(&rt, rt.alloc(), ADDRESSES)
 }
 
 #[test]
 fn slices_end_where_a_watched_place_is_changed(rt: HostRuntime) -> Result<(), AllocError> {
-    let wrong = wrong_plays(rt.alloc(), &PLACES)?;
-    assert!(rt; wrong.is_empty(), "{wrong}");
-    Ok(())
+    expect_right(&rt, rt.alloc(), PLACES)
 }
 
 #[test]
 fn marks_tell_where_the_last_step_began(rt: HostRuntime) -> Result<(), AllocError> {
-    let wrong = wrong_plays(rt.alloc(), &SITES)?;
-    assert!(rt; wrong.is_empty(), "{wrong}");
-    Ok(())
+    expect_right(&rt, rt.alloc(), SITES)
 }
 
 #[test]
 fn marks_stand_beside_other_reasons(rt: HostRuntime) -> Result<(), AllocError> {
-    let wrong = wrong_plays(rt.alloc(), &REASONS)?;
-    assert!(rt; wrong.is_empty(), "{wrong}");
-    Ok(())
+    expect_right(&rt, rt.alloc(), REASONS)
 }

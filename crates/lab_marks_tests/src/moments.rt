@@ -1,6 +1,6 @@
 //! Runs that are put back to a moment, and runs that are held.
 use crate::call::Call::{Apply, Hold, Moment, PutBack, Registers, SliceTo, Start, Watch};
-use crate::call::{Play, wrong_plays};
+use crate::call::{Play, expect_right};
 use lab_shown::place::Place::Memory;
 use lab_shown::step::StepKind::{In, Out, Over};
 use lab_test_kit::ask::Ask::{Frames, Info, Source, Variables};
@@ -19,7 +19,7 @@ const CALL: &str = "CALL F\nHLT\nF: NOP\nRET";
 /// Instructions one after the other.
 const LINE: &str = "X: NOP\nNOP\nJMP X";
 
-const MOMENTS: [Play; 9] = [
+const MOMENTS: &[Play] = &[
     (
         "registers, memory, console and frames are those of the moment, and the run goes on alike",
         &[
@@ -227,7 +227,7 @@ met from 0009 0>41
     ),
 ];
 
-const HOLDS: [Play; 5] = [
+const HOLDS: &[Play] = &[
     (
         "a run is held inside a routine",
         &[
@@ -322,14 +322,10 @@ A=041H B=000H C=000H D=000H E=000H H=000H L=000H SP=03FFEH PC=00009H
 
 #[test]
 fn runs_are_put_back_to_moments(rt: HostRuntime) -> Result<(), AllocError> {
-    let wrong = wrong_plays(rt.alloc(), &MOMENTS)?;
-    assert!(rt; wrong.is_empty(), "{wrong}");
-    Ok(())
+    expect_right(&rt, rt.alloc(), MOMENTS)
 }
 
 #[test]
 fn runs_are_held(rt: HostRuntime) -> Result<(), AllocError> {
-    let wrong = wrong_plays(rt.alloc(), &HOLDS)?;
-    assert!(rt; wrong.is_empty(), "{wrong}");
-    Ok(())
+    expect_right(&rt, rt.alloc(), HOLDS)
 }

@@ -4,10 +4,10 @@
 #![tactic(auto)]
 
 #[cfg(test)]
-mod breakpoints;
-#[cfg(test)]
 mod frames;
 #[cfg(test)]
-mod origins;
+mod loads;
+#[cfg(test)]
+mod told;
 #[cfg(test)]
 mod views;

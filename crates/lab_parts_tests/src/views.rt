@@ -1,4 +1,5 @@
 //! Views of a small board: the words of the tables, and the ends of every count.
+use crate::told::expect_told;
 use asm_build::built::Built;
 use asm_build::cell::build;
 use asm_build::symbols::Symbols;
@@ -21,7 +22,6 @@ use lab_views::fault::ViewFault;
 use lab_views::parts::Parts;
 use lab_views::views::{after_instructions, show};
 use std::alloc::{AllocError, Global};
-use std::process::Abort;
 use std::rt::HostRuntime;
 
 /// The parts of a board.
@@ -46,12 +46,14 @@ fn assemble(alloc: Global, text: &str) -> Result<Built, AsmFault> {
     built
 }
 
-/// A text under the path `a`.
-fn sources_with(rt: &impl Abort, alloc: Global, text: &str) -> Sources {
-    let mut sources = Sources::new(alloc).expect(rt, "memory");
-    let source = Source::copy_of(alloc, "a", text);
-    sources.add(source.expect(rt, "memory"));
-    sources
+/// Adds a text under the path `a`, where there is none.
+fn add_source(alloc: Global, sources: &mut Sources, text: &str) -> Result<(), AllocError> {
+    if sources.len() > 0 {
+        return Ok(());
+    }
+    let source = Source::copy_of(alloc, "a", text)?;
+    sources.add(source);
+    Ok(())
 }
 
 /// A breakpoint on line 2 of the first source.
@@ -63,26 +65,27 @@ fn breakpoints(alloc: Global) -> Result<Vec<BreakpointList>, AllocError> {
     Ok(lists)
 }
 
-/// A stopped board on which this text was loaded.
-fn board_with(rt: &impl Abort, alloc: Global, text: &str) -> Board {
-    let built = assemble(alloc, text).expect(rt, "it assembles");
-    let mut machine = Machine::new(alloc).expect(rt, "memory");
-    let mut origins = Origins::new(alloc);
-    let told = origins.load(&mut machine, 0, &built);
-    told.expect(rt, "memory");
-    Board {
+/// A stopped board for a cell, on which nothing was loaded.
+fn new_board(alloc: Global, text: &str) -> Result<Board, AsmFault> {
+    let machine = Machine::new(alloc)?;
+    let frames = Frames::new(alloc)?;
+    let sources = Sources::new(alloc)?;
+    let lists = breakpoints(alloc)?;
+    let built = assemble(alloc, text)?;
+    Ok(Board {
         machine,
         devices: Devices::new(alloc),
-        frames: Frames::new(alloc).expect(rt, "memory"),
-        origins,
+        frames,
+        origins: Origins::new(alloc),
         built,
-        sources: sources_with(rt, alloc, text),
-        lists: breakpoints(alloc).expect(rt, "memory"),
+        sources,
+        lists,
         is_stopped: true,
-    }
+    })
 }
 
 fn show_on(alloc: Global, board: &Board, ask: Ask) -> Result<Shown, ViewFault> {
+    let view = view(alloc, ask)?;
     let parts = Parts {
         machine: &board.machine,
         devices: &board.devices,
@@ -94,54 +97,63 @@ fn show_on(alloc: Global, board: &Board, ask: Ask) -> Result<Shown, ViewFault> {
         is_attached: false,
         is_stopped: board.is_stopped,
     };
-    show(alloc, &parts, &view(alloc, ask)?)
+    let answer = show(alloc, &parts, &view);
+    drop(view);
+    answer
 }
 
-fn put_answer(told: &mut String, answer: &Result<Shown, ViewFault>) -> Result<(), AllocError> {
+/// How many variables or lines a view has.
+fn put_length(answer: &Result<Shown, ViewFault>, told: &mut String) -> Result<(), AllocError> {
+    match answer {
+        Ok(Shown::Variables(variables)) => write!(told, "{}\n", variables.as_slice().len()),
+        Ok(Shown::Code(lines)) => write!(told, "{}\n", lines.as_slice().len()),
+        _ => told.push_str("no count\n"),
+    }
+}
+
+fn put_answer(answer: &Result<Shown, ViewFault>, told: &mut String) -> Result<(), AllocError> {
     match answer {
         Ok(shown) => put_shown(told, shown),
         Err(refused) => write!(told, "refused: {refused}\n"),
     }
 }
 
-/// Adds what is shown, or why not.
-fn tell(told: &mut String, alloc: Global, board: &Board, ask: Ask) -> Result<(), AllocError> {
+fn put_view(
+    alloc: Global,
+    board: &Board,
+    ask: Ask,
+    is_counted: bool,
+    told: &mut String,
+) -> Result<(), AllocError> {
     let answer = show_on(alloc, board, ask);
-    let put = put_answer(told, &answer);
+    let put = if is_counted {
+        put_length(&answer, told)
+    } else {
+        put_answer(&answer, told)
+    };
     drop(answer);
     put
 }
 
-/// Compares what is shown, or why not, with these lines.
-fn compare(rt: &impl Abort, alloc: Global, board: &Board, asks: &[Ask], wanted: &str) {
-    let mut told = String::new(alloc);
-    for ask in asks {
-        tell(&mut told, alloc, board, *ask).expect(rt, "memory");
-    }
-    assert_eq!(rt; told.as_str(), wanted);
+/// What a play does with a board, or looks at.
+#[derive(Clone, Copy)]
+enum Act {
+    /// Shows what is asked, or why not.
+    Show(Ask),
+    /// Shows how much is shown.
+    Count(Ask),
+    /// Sets all registers, with these interrupts.
+    Registers(Interrupts),
+    /// Sets the switches, types twelve bytes and presses button 7.
+    Devices,
+    /// Makes two calls, of which the second one's target has no label.
+    CallTwice,
+    Pc(u16),
+    /// Lets the run go on.
+    Run,
+    /// Shows the address behind so many lines of code from the last address on.
+    After(u16),
 }
-
-/// How many variables or lines a view has.
-fn length(answer: &Result<Shown, ViewFault>) -> Option<usize> {
-    match answer {
-        Ok(Shown::Variables(variables)) => Some(variables.as_slice().len()),
-        Ok(Shown::Code(lines)) => Some(lines.as_slice().len()),
-        _ => None,
-    }
-}
-
-fn count(alloc: Global, board: &Board, ask: Ask) -> Option<usize> {
-    let answer = show_on(alloc, board, ask);
-    let found = length(&answer);
-    drop(answer);
-    found
-}
-
-const INTERRUPTS: [(Interrupts, &str); 3] = [
-    (Interrupts::Off, "off"),
-    (Interrupts::Arming, "arming"),
-    (Interrupts::On, "on"),
-];
 
 fn registers(interrupts: Interrupts) -> Registers {
     Registers {
@@ -159,125 +171,171 @@ fn registers(interrupts: Interrupts) -> Registers {
     }
 }
 
-/// The lines of the registers and of the flags, with this word for the interrupts.
-fn registers_told(alloc: Global, word: &str) -> Result<String, AllocError> {
-    format!(in alloc;
-        "A=0ABH B=001H C=002H D=003H E=004H H=005H L=0FFH SP=0FFFEH PC=00A1BH \n\
-S=1 Z=0 AC=1 P=0 CY=1 INTE={word} \n"
-    )
+fn use_devices(devices: &mut Devices) -> Result<(), AllocError> {
+    devices.set_switches(0x5a);
+    let _ = devices.press(7);
+    devices.type_bytes(b"0123456789ab")
 }
 
-#[test]
-fn registers_and_flags(rt: HostRuntime) {
-    let mut board = board_with(&rt, rt.alloc(), "");
-    let asks = [Ask::Variables(1, 7, 1), Ask::Variables(2, 7, 1)];
-    for (interrupts, word) in INTERRUPTS {
-        board.machine.set_regs(registers(interrupts));
-        let wanted = registers_told(rt.alloc(), word).expect(&rt, "memory");
-        compare(&rt, rt.alloc(), &board, &asks, wanted.as_str());
+fn call_twice(frames: &mut Frames) {
+    for (slot, target, site) in [(0xfffe, 6, 3), (0xfffc, 0x1abc, 6)] {
+        let called = Stepped::Called { slot, target };
+        let _ = frames.advance(called, site, slot);
     }
-    drop(board);
 }
 
-const REFERENCES: [Ask; 5] = [
-    Ask::Variables(3, 0, 0),
-    Ask::Variables(4, 0, 0),
-    Ask::Variables(0, 0, 0),
-    Ask::Variables(6, 0, 0),
-    Ask::Variables(u32::MAX, 0, 0),
-];
-
-const REFERENCES_TOLD: &str = "\
-switches=000H lamps=000H latched=none waiting=0 
-X=00005H LOOP=00000H 
-refused: there are the references 1 to 5
-refused: there are the references 1 to 5
-refused: there are the references 1 to 5
-";
-
-#[test]
-fn devices_and_references(rt: HostRuntime) {
-    let mut board = board_with(&rt, rt.alloc(), "X SET 5\nLOOP: NOP");
-    compare(&rt, rt.alloc(), &board, &REFERENCES, REFERENCES_TOLD);
-    board.devices.set_switches(0x5a);
-    let typed = board.devices.type_bytes(b"0123456789ab");
-    typed.expect(&rt, "memory");
-    let _ = board.devices.press(7);
-    let wanted = "switches=05AH lamps=000H latched=7 waiting=12 \n";
-    compare(&rt, rt.alloc(), &board, &[Ask::Variables(3, 0, 0)], wanted);
-    drop(board);
-}
-
-/// What is asked, and how much is shown.
-const COUNTS: [(Ask, usize); 19] = [
-    (Ask::Variables(4, 0, 0), 256),
-    (Ask::Variables(4, 0, 16), 16),
-    (Ask::Variables(4, 0, 256), 256),
-    (Ask::Variables(4, 0, 257), 256),
-    (Ask::Variables(4, 44, u32::MAX), 256),
-    (Ask::Variables(4, 45, u32::MAX), 255),
-    (Ask::Variables(4, 299, 5), 1),
-    (Ask::Variables(4, 300, 5), 0),
-    (Ask::Variables(4, u32::MAX, u32::MAX), 0),
-    (Ask::Variables(5, 0, 0), 16),
-    (Ask::Variables(5, 0, 256), 256),
-    (Ask::Variables(5, 0, 257), 256),
-    (Ask::Variables(5, 65_280, u32::MAX), 256),
-    (Ask::Variables(5, 65_281, u32::MAX), 255),
-    (Ask::Variables(5, 65_536, 0), 0),
-    (Ask::Variables(5, u32::MAX, u32::MAX), 0),
-    (Ask::Code(0xffff, 0), 0),
-    (Ask::Code(0xffff, 256), 256),
-    (Ask::Code(0xffff, u32::MAX), 256),
-];
-
-#[test]
-fn counts_are_cut(rt: HostRuntime) -> Result<(), AllocError> {
-    let text = symbols(rt.alloc(), "L")?;
-    let board = board_with(&rt, rt.alloc(), text.as_str());
-    for (place, (ask, wanted)) in COUNTS.iter().enumerate() {
-        assert!(rt;
-            count(rt.alloc(), &board, *ask) == Some(*wanted),
-            "row {place}"
-        );
+fn tell(alloc: Global, board: &mut Board, act: Act, told: &mut String) -> Result<(), AllocError> {
+    match act {
+        Act::Show(ask) => return put_view(alloc, board, ask, false, told),
+        Act::Count(ask) => return put_view(alloc, board, ask, true, told),
+        Act::Registers(interrupts) => board.machine.set_regs(registers(interrupts)),
+        Act::Devices => return use_devices(&mut board.devices),
+        Act::CallTwice => call_twice(&mut board.frames),
+        Act::Pc(address) => board.machine.set_pc(address),
+        Act::Run => board.is_stopped = false,
+        Act::After(lines) => {
+            let after = after_instructions(&board.machine, 0xffff, lines);
+            return write!(told, "{lines} lines: {after:04X}\n");
+        }
     }
-    let asks = [Ask::Variables(4, 299, 0), Ask::Variables(5, 0xffff, 5)];
-    compare(&rt, rt.alloc(), &board, &asks, "L299=0012BH \nFFFF=000H \n");
-    drop(board);
     Ok(())
 }
 
-/// How many lines, and the address behind them: one line up to 2, a byte each up to 0FFFFH, and that line
-/// again.
-const AFTER: [(u16, u16); 4] = [(0, 0xffff), (1, 2), (2, 3), (0xffff, 2)];
-
-#[test]
-fn code_goes_on_at_the_first_address(rt: HostRuntime) {
-    let board = board_with(&rt, rt.alloc(), "ORG 0\nDB 34H,12H,8\nORG 0FFFFH\nDB 0C3H");
-    let wanted = "FFFF C3 34 12 JMP 01234H\n0002 08 DB 008H\n0003 00 NOP\n";
-    compare(&rt, rt.alloc(), &board, &[Ask::Code(0xffff, 3)], wanted);
-    for (lines, wanted) in AFTER {
-        let found = after_instructions(&board.machine, 0xffff, lines);
-        assert!(rt; found == wanted, "{lines} lines");
+/// Loads the cell, which has this text, and goes through a play.
+fn tell_all(
+    alloc: Global,
+    board: &mut Board,
+    text: &str,
+    acts: &[Act],
+    told: &mut String,
+) -> Result<(), AllocError> {
+    add_source(alloc, &mut board.sources, text)?;
+    board.origins.load(&mut board.machine, 0, &board.built)?;
+    for act in acts {
+        tell(alloc, board, *act, told)?;
     }
-    drop(board);
+    Ok(())
 }
 
-const CELL: &str = "ORG 3\nSIX EQU 6\nCALL SUB1\nSUB1: NOP\nSUB2: NOP";
+fn tell_play(alloc: Global, text: &str, acts: &[Act], told: &mut String) -> Result<(), AllocError> {
+    match new_board(alloc, text) {
+        Ok(mut board) => {
+            let put = tell_all(alloc, &mut board, text, acts, told);
+            drop(board);
+            put
+        }
+        Err(fault) => write!(told, "{fault}"),
+    }
+}
 
-const ALL_ASKS: [Ask; 12] = [
-    Ask::Frames(0, 0),
-    Ask::Frames(1, 1),
-    Ask::Frames(2, u32::MAX),
-    Ask::Frames(3, 64),
-    Ask::Frames(u32::MAX, u32::MAX),
-    Ask::Scopes(0),
-    Ask::Scopes(1),
-    Ask::Scopes(3),
-    Ask::Scopes(4),
-    Ask::Source("b"),
-    Ask::Source("a"),
-    Ask::Info,
+const REGISTERS: [Act; 9] = [
+    Act::Registers(Interrupts::Off),
+    Act::Show(Ask::Variables(1, 7, 1)),
+    Act::Show(Ask::Variables(2, 7, 1)),
+    Act::Registers(Interrupts::Arming),
+    Act::Show(Ask::Variables(1, 7, 1)),
+    Act::Show(Ask::Variables(2, 7, 1)),
+    Act::Registers(Interrupts::On),
+    Act::Show(Ask::Variables(1, 7, 1)),
+    Act::Show(Ask::Variables(2, 7, 1)),
+];
+
+const REGISTERS_TOLD: &str = "\
+A=0ABH B=001H C=002H D=003H E=004H H=005H L=0FFH SP=0FFFEH PC=00A1BH \n\
+S=1 Z=0 AC=1 P=0 CY=1 INTE=off \n\
+A=0ABH B=001H C=002H D=003H E=004H H=005H L=0FFH SP=0FFFEH PC=00A1BH \n\
+S=1 Z=0 AC=1 P=0 CY=1 INTE=arming \n\
+A=0ABH B=001H C=002H D=003H E=004H H=005H L=0FFH SP=0FFFEH PC=00A1BH \n\
+S=1 Z=0 AC=1 P=0 CY=1 INTE=on \n";
+
+const REFERENCES: [Act; 7] = [
+    Act::Show(Ask::Variables(3, 0, 0)),
+    Act::Show(Ask::Variables(4, 0, 0)),
+    Act::Show(Ask::Variables(0, 0, 0)),
+    Act::Show(Ask::Variables(6, 0, 0)),
+    Act::Show(Ask::Variables(u32::MAX, 0, 0)),
+    Act::Devices,
+    Act::Show(Ask::Variables(3, 0, 0)),
+];
+
+const REFERENCES_TOLD: &str = "\
+switches=000H lamps=000H latched=none waiting=0 \n\
+X=00005H LOOP=00000H \n\
+refused: there are the references 1 to 5
+refused: there are the references 1 to 5
+refused: there are the references 1 to 5
+switches=05AH lamps=000H latched=7 waiting=12 \n";
+
+/// Of 300 symbols L0 to L299.
+const COUNTS: [Act; 21] = [
+    Act::Count(Ask::Variables(4, 0, 0)),
+    Act::Count(Ask::Variables(4, 0, 16)),
+    Act::Count(Ask::Variables(4, 0, 256)),
+    Act::Count(Ask::Variables(4, 0, 257)),
+    Act::Count(Ask::Variables(4, 44, u32::MAX)),
+    Act::Count(Ask::Variables(4, 45, u32::MAX)),
+    Act::Count(Ask::Variables(4, 299, 5)),
+    Act::Count(Ask::Variables(4, 300, 5)),
+    Act::Count(Ask::Variables(4, u32::MAX, u32::MAX)),
+    Act::Count(Ask::Variables(5, 0, 0)),
+    Act::Count(Ask::Variables(5, 0, 256)),
+    Act::Count(Ask::Variables(5, 0, 257)),
+    Act::Count(Ask::Variables(5, 65_280, u32::MAX)),
+    Act::Count(Ask::Variables(5, 65_281, u32::MAX)),
+    Act::Count(Ask::Variables(5, 65_536, 0)),
+    Act::Count(Ask::Variables(5, u32::MAX, u32::MAX)),
+    Act::Count(Ask::Code(0xffff, 0)),
+    Act::Count(Ask::Code(0xffff, 256)),
+    Act::Count(Ask::Code(0xffff, u32::MAX)),
+    Act::Show(Ask::Variables(4, 299, 0)),
+    Act::Show(Ask::Variables(5, 0xffff, 5)),
+];
+
+const COUNTS_TOLD: &str = "\
+256\n16\n256\n256\n256\n255\n1\n0\n0\n\
+16\n256\n256\n256\n255\n0\n0\n\
+0\n256\n256\n\
+L299=0012BH \nFFFF=000H \n";
+
+/// One line up to 2, a byte each up to 0FFFFH, and that line again.
+const CODE: [Act; 5] = [
+    Act::Show(Ask::Code(0xffff, 3)),
+    Act::After(0),
+    Act::After(1),
+    Act::After(2),
+    Act::After(0xffff),
+];
+
+const CODE_TOLD: &str = "\
+FFFF C3 34 12 JMP 01234H
+0002 08 DB 008H
+0003 00 NOP
+0 lines: FFFF
+1 lines: 0002
+2 lines: 0003
+65535 lines: 0002
+";
+
+const ALL: [Act; 19] = [
+    Act::Pc(7),
+    Act::CallTwice,
+    Act::Show(Ask::Frames(0, 0)),
+    Act::Show(Ask::Frames(1, 1)),
+    Act::Show(Ask::Frames(2, u32::MAX)),
+    Act::Show(Ask::Frames(3, 64)),
+    Act::Show(Ask::Frames(u32::MAX, u32::MAX)),
+    Act::Show(Ask::Scopes(0)),
+    Act::Show(Ask::Scopes(1)),
+    Act::Show(Ask::Scopes(3)),
+    Act::Show(Ask::Scopes(4)),
+    Act::Show(Ask::Source("b")),
+    Act::Show(Ask::Source("a")),
+    Act::Show(Ask::Info),
+    Act::Pc(0x100),
+    Act::Show(Ask::Frames(0, 1)),
+    Act::Run,
+    Act::Show(Ask::Frames(0, 0)),
+    Act::Show(Ask::Scopes(0)),
 ];
 
 const ALL_TOLD: &str = "\
@@ -303,28 +361,54 @@ SUB1: NOP
 SUB2: NOP
 attached false stopped true
 a [2]
+1 1ABCH 0 none 0100
+of 3
+refused: the program isn't stopped
+refused: the program isn't stopped
 ";
 
-/// Two calls: the second one's target has no label.
-fn call_twice(board: &mut Board) {
-    for (slot, target, site) in [(0xfffe, 6, 3), (0xfffc, 0x1abc, 6)] {
-        let called = Stepped::Called { slot, target };
-        let _ = board.frames.advance(called, site, slot);
+/// What each play is about, the cell that is loaded, what is done, and what it shows.
+const PLAYS: [(&str, &str, &[Act], &str); 4] = [
+    ("registers and flags", "", &REGISTERS, REGISTERS_TOLD),
+    (
+        "devices and references",
+        "X SET 5\nLOOP: NOP",
+        &REFERENCES,
+        REFERENCES_TOLD,
+    ),
+    (
+        "code goes on at the first address",
+        "ORG 0\nDB 34H,12H,8\nORG 0FFFFH\nDB 0C3H",
+        &CODE,
+        CODE_TOLD,
+    ),
+    (
+        "frames, sources and breakpoints",
+        "ORG 3\nSIX EQU 6\nCALL SUB1\nSUB1: NOP\nSUB2: NOP",
+        &ALL,
+        ALL_TOLD,
+    ),
+];
+
+#[test]
+fn views_of_a_small_board(rt: HostRuntime) {
+    for (about, text, acts, wanted) in PLAYS {
+        let mut told = String::new(rt.alloc());
+        let put = tell_play(rt.alloc(), text, acts, &mut told);
+        expect_told(&rt, about, put, told, wanted);
     }
 }
 
+fn tell_counts(alloc: Global, told: &mut String) -> Result<(), AllocError> {
+    let text = symbols(alloc, "L")?;
+    let put = tell_play(alloc, text.as_str(), &COUNTS, told);
+    drop(text);
+    put
+}
+
 #[test]
-fn frames_sources_and_breakpoints(rt: HostRuntime) {
-    let mut board = board_with(&rt, rt.alloc(), CELL);
-    board.machine.set_pc(7);
-    call_twice(&mut board);
-    compare(&rt, rt.alloc(), &board, &ALL_ASKS, ALL_TOLD);
-    board.machine.set_pc(0x100);
-    let wanted = "1 1ABCH 0 none 0100\nof 3\n";
-    compare(&rt, rt.alloc(), &board, &[Ask::Frames(0, 1)], wanted);
-    board.is_stopped = false;
-    let asks = [Ask::Frames(0, 0), Ask::Scopes(0)];
-    let wanted = "refused: the program isn't stopped\nrefused: the program isn't stopped\n";
-    compare(&rt, rt.alloc(), &board, &asks, wanted);
-    drop(board);
+fn counts_are_cut(rt: HostRuntime) {
+    let mut told = String::new(rt.alloc());
+    let put = tell_counts(rt.alloc(), &mut told);
+    expect_told(&rt, "counts", put, told, COUNTS_TOLD);
 }

@@ -17,7 +17,7 @@ const COPIES: &str = "MAIN: DB 0CBH\nDW X\nX: DB 0DDH\nDW F1\nHLT\nF1: DB 0D9H\n
 const DEFINED: &str = "X: NOP\nJMP X\nEND X";
 
 // What each play is about, its steps, and the lines that they show.
-const PLAYS: [Play; 8] = [
+const PLAYS: &[Play] = &[
     (
         "a board is strict until it is told, and after it is told again",
         &[
@@ -193,7 +193,7 @@ END MAIN
 
 #[test]
 fn undefined_opcodes_act_where_they_are_to(rt: HostRuntime) -> Result<(), AllocError> {
-    let wrong = wrong_plays(rt.alloc(), &PLAYS)?;
+    let wrong = wrong_plays(rt.alloc(), PLAYS)?;
     assert!(rt; wrong.is_empty(), "{wrong}");
     Ok(())
 }

@@ -19,7 +19,7 @@ fn laws_stand() {
 }
 
 // What each play is about, its steps, and the lines that they show.
-const PLAYS: [Play; 9] = [
+const PLAYS: &[Play] = &[
     (
         "a cell is run in slices",
         &[
@@ -224,7 +224,7 @@ refused: the path has another text
 
 #[test]
 fn boards_answer(rt: HostRuntime) -> Result<(), AllocError> {
-    let wrong = wrong_plays(rt.alloc(), &PLAYS)?;
+    let wrong = wrong_plays(rt.alloc(), PLAYS)?;
     assert!(rt; wrong.is_empty(), "{wrong}");
     Ok(())
 }

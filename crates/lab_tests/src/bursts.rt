@@ -6,6 +6,7 @@ use i80_exec::ports::PortOperation;
 use i80_exec::registers::{Interrupts, Registers};
 use lab_core::answer::{Answer, End, SliceOutcome, Stop};
 use lab_core::event::Event;
+use lab_core::fault::EventFault;
 use lab_core::lab::Lab;
 use lab_frames::frames::Frames;
 use lab_test_kit::script::{is_done, load_text, poke, set_breakpoints};
@@ -24,7 +25,7 @@ struct Program {
     stretch: u32,
 }
 
-const PROGRAMS: [Program; 10] = [
+const PROGRAMS: &[Program] = &[
     Program {
         about: "IN and OUT in a loop",
         text: "X: IN 0\nOUT 2\nINR A\nOUT 7\nIN 1\nJMP X\n",
@@ -113,7 +114,7 @@ const PROGRAMS: [Program; 10] = [
 ];
 
 /// The lengths of slices that are compared with slices of one step.
-const LENGTHS: [u16; 4] = [2, 3, 7, 4096];
+const LENGTHS: &[u16] = &[2, 3, 7, 4096];
 
 /// How many stretches of a program are made, at most.
 const STRETCHES: u32 = 24;
@@ -129,12 +130,16 @@ fn code_of(outcome: SliceOutcome) -> u32 {
     }
 }
 
+fn operation_code(operation: &PortOperation) -> u32 {
+    match operation {
+        PortOperation::In { port, byte } => u32::from_be_bytes([0, 1, *port, *byte]),
+        PortOperation::Out { port, byte } => u32::from_be_bytes([0, 2, *port, *byte]),
+    }
+}
+
 fn put_traffic(kept: &mut Vec<u32>, traffic: &Traffic) -> Result<(), AllocError> {
     for operation in traffic.as_slice() {
-        kept.push(match operation {
-            PortOperation::In { port, byte } => 0x0001_0000 + *port as u32 * 256 + *byte as u32,
-            PortOperation::Out { port, byte } => 0x0002_0000 + *port as u32 * 256 + *byte as u32,
-        })?;
+        kept.push(operation_code(operation))?;
     }
     Ok(())
 }
@@ -146,27 +151,37 @@ struct Sliced {
     code: u32,
 }
 
+// Keeps the traffic of a slice. None where it was refused.
+fn put_slice(
+    kept: &mut Vec<u32>,
+    answer: &Result<Answer, EventFault>,
+) -> Result<Option<Sliced>, AllocError> {
+    let Ok(
+        Answer::Sliced {
+            executed,
+            traffic,
+            outcome,
+        },
+    ) = answer
+    else {
+        return Ok(None);
+    };
+    put_traffic(kept, traffic)?;
+    Ok(Some(Sliced {
+        executed: *executed as u32,
+        code: code_of(*outcome),
+    }))
+}
+
 // A slice, whose traffic is kept. None where it is refused.
 fn slice(lab: &mut Lab, n: u16, kept: &mut Vec<u32>) -> Result<Option<Sliced>, AllocError>
     requires some { 1 ≤ n }
     requires few { n ≤ 4096 }
 {
-    match lab.apply(&Event::Slice(n)) {
-        Ok(
-            Answer::Sliced {
-                executed,
-                traffic,
-                outcome,
-            },
-        ) => {
-            put_traffic(kept, &traffic)?;
-            Ok(Some(Sliced {
-                executed: executed as u32,
-                code: code_of(outcome),
-            }))
-        }
-        _ => Ok(None),
-    }
+    let answer = lab.apply(&Event::Slice(n));
+    let sliced = put_slice(kept, &answer);
+    drop(answer);
+    sliced
 }
 
 fn put_registers(kept: &mut Vec<u32>, regs: Registers) -> Result<(), AllocError> {
@@ -178,10 +193,10 @@ fn put_registers(kept: &mut Vec<u32>, regs: Registers) -> Result<(), AllocError>
     for word in [
         regs.pc as u32,
         regs.sp as u32,
-        regs.a as u32 * 256 + regs.flags.to_byte() as u32,
-        regs.b as u32 * 256 + regs.c as u32,
-        regs.d as u32 * 256 + regs.e as u32,
-        regs.h as u32 * 256 + regs.l as u32,
+        u32::from_be_bytes([0, 0, regs.a, regs.flags.to_byte()]),
+        u32::from_be_bytes([0, 0, regs.b, regs.c]),
+        u32::from_be_bytes([0, 0, regs.d, regs.e]),
+        u32::from_be_bytes([0, 0, regs.h, regs.l]),
         interrupts,
     ] {
         kept.push(word)?;
@@ -243,6 +258,7 @@ fn change_sp(
     let change = poke(alloc, 1, "SP", top)?;
     let _ = is_done(lab, &Event::Pause);
     let _ = is_done(lab, &change);
+    drop(change);
     Ok(())
 }
 
@@ -272,22 +288,56 @@ fn make_stretches(
     Ok(())
 }
 
+// Sets breakpoints on lines. Whether it was accepted.
+fn set_lines(alloc: Global, lab: &mut Lab, lines: &[u32]) -> Result<bool, AllocError> {
+    let Some(event) = set_breakpoints(alloc, "a", lines)? else {
+        return Ok(false);
+    };
+    let is_set = is_done(lab, &event);
+    drop(event);
+    Ok(is_set)
+}
+
 fn begin(alloc: Global, lab: &mut Lab, program: &Program) -> Result<bool, AllocError> {
     if !load_text(alloc, lab, "a", program.text)? {
         return Ok(false);
     }
-    if !program.tops.is_empty() && !is_done(lab, &Event::Attach) {
+    let is_debugged = !program.tops.is_empty() || !program.lines.is_empty();
+    if is_debugged && !is_done(lab, &Event::Attach) {
         return Ok(false);
     }
-    if !program.lines.is_empty() {
-        let Some(lines) = set_breakpoints(alloc, "a", program.lines)? else {
-            return Ok(false);
-        };
-        if !is_done(lab, &Event::Attach) || !is_done(lab, &lines) {
-            return Ok(false);
-        }
+    if !program.lines.is_empty() && !set_lines(alloc, lab, program.lines)? {
+        return Ok(false);
     }
     Ok(is_done(lab, &Event::Start(0)))
+}
+
+fn put_board(kept: &mut Vec<u32>, lab: &Lab) -> Result<(), AllocError> {
+    put_registers(kept, lab.regs())?;
+    put_frames(kept, lab.frames())?;
+    for address in 0..=u16::MAX {
+        kept.push(lab.peek(address) as u32)?;
+    }
+    Ok(())
+}
+
+// Keeps all that is seen of a run on a new board in slices of n. Whether it could be begun.
+fn put_run(
+    alloc: Global,
+    lab: &mut Lab,
+    program: &Program,
+    n: u16,
+    kept: &mut Vec<u32>,
+) -> Result<bool, AllocError>
+    requires some { 1 ≤ n }
+    requires few { n ≤ 4096 }
+{
+    if !begin(alloc, lab, program)? {
+        return Ok(false);
+    }
+    make_stretches(alloc, lab, program, n, kept)?;
+    put_board(kept, lab)?;
+    Ok(true)
 }
 
 // All that is seen of a run in slices of n. None where it can't be begun.
@@ -297,16 +347,9 @@ fn trace_of(alloc: Global, program: &Program, n: u16) -> Result<Option<Vec<u32>>
 {
     let mut lab = Lab::new(alloc)?;
     let mut kept = Vec::new(alloc);
-    if !begin(alloc, &mut lab, program)? {
-        return Ok(None);
-    }
-    make_stretches(alloc, &mut lab, program, n, &mut kept)?;
-    put_registers(&mut kept, lab.regs())?;
-    put_frames(&mut kept, lab.frames())?;
-    for address in 0..=u16::MAX {
-        kept.push(lab.peek(address) as u32)?;
-    }
-    Ok(Some(kept))
+    let is_run = put_run(alloc, &mut lab, program, n, &mut kept);
+    drop(lab);
+    Ok(if is_run? { Some(kept) } else { None })
 }
 
 fn are_same(one: &Option<Vec<u32>>, other: &Option<Vec<u32>>) -> bool {
@@ -316,21 +359,46 @@ fn are_same(one: &Option<Vec<u32>>, other: &Option<Vec<u32>>) -> bool {
     }
 }
 
-// Whether slices of each length give what slices of one step give.
-fn is_same(alloc: Global, program: &Program) -> Result<bool, AllocError> {
-    let single = trace_of(alloc, program, 1)?;
-    let mut is_so = true;
-    for n in LENGTHS {
-        let seen = trace_of(alloc, program, n.max(1).min(4096))?;
-        is_so = is_so && are_same(&single, &seen);
-    }
+fn has_trace(
+    alloc: Global,
+    program: &Program,
+    n: u16,
+    wanted: &Option<Vec<u32>>,
+) -> Result<bool, AllocError>
+    requires some { 1 ≤ n }
+    requires few { n ≤ 4096 }
+{
+    let seen = trace_of(alloc, program, n)?;
+    let is_so = are_same(wanted, &seen);
+    drop(seen);
     Ok(is_so)
 }
 
-#[test]
-fn slices_are_steps(rt: HostRuntime) -> Result<(), AllocError> {
-    for program in PROGRAMS {
-        assert!(rt; is_same(rt.alloc(), &program)?, "{}", program.about);
+fn have_trace(
+    alloc: Global,
+    program: &Program,
+    wanted: &Option<Vec<u32>>,
+) -> Result<bool, AllocError> {
+    for n in LENGTHS {
+        if !has_trace(alloc, program, (*n).max(1).min(4096), wanted)? {
+            return Ok(false);
+        }
     }
-    Ok(())
+    Ok(true)
+}
+
+// Whether slices of each length give what slices of one step give.
+fn is_same(alloc: Global, program: &Program) -> Result<bool, AllocError> {
+    let single = trace_of(alloc, program, 1)?;
+    let is_so = have_trace(alloc, program, &single);
+    drop(single);
+    is_so
+}
+
+#[test]
+fn slices_are_steps(rt: HostRuntime) {
+    for program in PROGRAMS {
+        let is_right = is_same(rt.alloc(), program) == Ok(true);
+        assert!(rt; is_right, "{}", program.about);
+    }
 }

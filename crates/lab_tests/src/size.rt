@@ -51,15 +51,27 @@ fn five_thousand_events_are_answered(rt: HostRuntime) -> Result<(), AllocError> 
     Ok(())
 }
 
+// Loads a cell of 300 symbols. Whether it was taken.
+fn load_symbols(alloc: Global, lab: &mut Lab) -> Result<bool, AllocError> {
+    let text = symbols(alloc, "S")?;
+    let is_loaded = load_text(alloc, lab, "a", text.as_str());
+    drop(text);
+    is_loaded
+}
+
 // Six bytes that a second cell makes of the symbols of a first one, where both are taken.
 fn bytes_of_two_cells(alloc: Global, lab: &mut Lab) -> Result<Option<[u8; 6]>, AllocError> {
-    let text = symbols(alloc, "S")?;
-    if !load_text(alloc, lab, "a", text.as_str())?
-        || !load_text(alloc, lab, "b", "DW S0,S255,S299")?
-    {
+    if !load_symbols(alloc, lab)? || !load_text(alloc, lab, "b", "DW S0,S255,S299")? {
         return Ok(None);
     }
-    Ok(Some([0, 1, 2, 3, 4, 5].map(|address| lab.peek(address))))
+    Ok(Some([
+        lab.peek(0),
+        lab.peek(1),
+        lab.peek(2),
+        lab.peek(3),
+        lab.peek(4),
+        lab.peek(5),
+    ]))
 }
 
 #[test]
