@@ -1,23 +1,34 @@
 //! The assembler on a mixed program.
-use anyhow::{Result, bail};
+use crate::failure::fail;
+use anyhow::Result;
 use asm_build::built::Built;
 use asm_build::cell::build;
 use asm_build::symbols::Symbols;
 use asm_text::statements::statements;
 use std::alloc::{AllocError, Global};
 
-// Ten lines: a comment, an EQU with an expression, a label, an IF with two parts, a jump back.
+/// Ten lines: a comment, an EQU with an expression, a label, an IF with two parts, a jump back. `#` stands
+/// for the block's number.
+static BLOCK: &str = "\
+; block #
+V# EQU #*2+1 AND 0FFH
+L#: MOV A,B
+ MVI C,V# AND 7FH
+ IF V# GT 100
+ INR A
+ ELSE
+ DCR A
+ ENDIF
+ JMP L#
+";
+
 fn push_block(text: &mut String, number: u64) -> Result<(), AllocError> {
-    write!(
-        text,
-        "; block {number}\nV{number} EQU {number}*2+1 AND 0FFH\n"
-    )?;
-    write!(text, "L{number}: MOV A,B\n MVI C,V{number} AND 7FH\n")?;
-    write!(
-        text,
-        " IF V{number} GT 100\n INR A\n ELSE\n DCR A\n ENDIF\n"
-    )?;
-    write!(text, " JMP L{number}\n")?;
+    for (place, part) in BLOCK.split('#').enumerate() {
+        if place > 0 {
+            write!(text, "{number}")?;
+        }
+        text.push_str(part)?;
+    }
     Ok(())
 }
 
@@ -32,7 +43,9 @@ fn program(alloc: Global, lines: u64) -> Result<String, AllocError> {
 // What a text is assembled to, if it isn't refused.
 fn build_text(alloc: Global, text: &str) -> Option<Built> {
     let all = statements(alloc, text).ok()?;
-    let built = build(alloc, &all, &Symbols::new(alloc)).ok();
+    let none = Symbols::new(alloc);
+    let built = build(alloc, &all, &none).ok();
+    drop(none);
     drop(all);
     built
 }
@@ -45,7 +58,7 @@ fn assemble(alloc: Global, text: &str) -> Result<u64> {
             drop(built);
             Ok(count)
         }
-        None => bail!("the text is refused"),
+        None => fail("the text is refused"),
     }
 }
 
@@ -61,5 +74,7 @@ pub fn assemble_often(alloc: Global, text: &str, rounds: u64) -> Result<u64> {
 /// Assembles a program of so many lines, so often. How many bytes it gives.
 pub fn work(alloc: Global, lines: u64, rounds: u64) -> Result<u64> {
     let text = program(alloc, lines)?;
-    assemble_often(alloc, text.as_str(), rounds)
+    let bytes = assemble_often(alloc, text.as_str(), rounds);
+    drop(text);
+    bytes
 }

@@ -3,7 +3,8 @@ ghost use Rattle.std.specs.Prelude.{◌≤◌, IfOk};
 ghost use Rattle.lab_core.specs.Events.{Fits};
 
 use crate::cells::{Workload, workload_named};
-use anyhow::{Result, bail};
+use crate::failure::fail;
+use anyhow::Result;
 use base_text::sequence::Sequence;
 use base_text::text::Text;
 use i80_exec::registers::Registers;
@@ -20,7 +21,19 @@ const SLICE: u16 = 4096;
 pub fn is_accepted(lab: &mut Lab, event: &Event) -> bool
     requires { Fits event.now }
 {
-    lab.apply(event).is_ok()
+    let answer = lab.apply(event);
+    let is_accepted = answer.is_ok();
+    drop(answer);
+    is_accepted
+}
+
+// Whether an event is accepted that isn't made again.
+fn accepts(lab: &mut Lab, event: Event) -> bool
+    requires { Fits event }
+{
+    let is_accepted = is_accepted(lab, &event);
+    drop(event);
+    is_accepted
 }
 
 pub fn load_event(alloc: Global, text: &str) -> Result<Event, AllocError>
@@ -41,21 +54,15 @@ fn breakpoint_event(alloc: Global, line: u32) -> Result<Event, AllocError>
 }
 
 fn load(alloc: Global, lab: &mut Lab, text: &str) -> Result<bool, AllocError> {
-    let event = load_event(alloc, text)?;
-    Ok(is_accepted(lab, &event))
-}
-
-fn set_breakpoint(alloc: Global, lab: &mut Lab, line: u32) -> Result<bool, AllocError> {
-    let event = breakpoint_event(alloc, line)?;
-    Ok(is_accepted(lab, &event))
+    Ok(accepts(lab, load_event(alloc, text)?))
 }
 
 // Attaches a debugger with a breakpoint on a line. Whether it was accepted.
 fn watch(alloc: Global, lab: &mut Lab, line: u32) -> Result<bool, AllocError> {
-    if !is_accepted(lab, &Event::Attach) {
+    if !accepts(lab, Event::Attach) {
         return Ok(false);
     }
-    set_breakpoint(alloc, lab, line)
+    Ok(accepts(lab, breakpoint_event(alloc, line)?))
 }
 
 fn steps_of(answer: &Result<Answer, EventFault>) -> Option<u16> {
@@ -70,7 +77,10 @@ fn slice(lab: &mut Lab, n: u16) -> Option<u16>
     requires some { 1 ≤ n }
     requires few { n ≤ 4096 }
 {
-    steps_of(&lab.apply(&Event::Slice(n)))
+    let answer = lab.apply(&Event::Slice(n));
+    let steps = steps_of(&answer);
+    drop(answer);
+    steps
 }
 
 // Whether a slice of so many steps makes them all.
@@ -112,7 +122,7 @@ fn is_run(
     if is_attached && !watch(alloc, lab, workload.last_line)? {
         return Ok(false);
     }
-    Ok(is_accepted(lab, &Event::Start(0)) && run(lab, count))
+    Ok(accepts(lab, Event::Start(0)) && run(lab, count))
 }
 
 // What the registers come to, where all was accepted.
@@ -123,23 +133,37 @@ fn registers_after(
     count: u64,
 ) -> Result<Option<Registers>, AllocError> {
     let mut lab = Lab::new(alloc)?;
-    let is_done = is_run(alloc, &mut lab, workload, is_attached, count)?;
-    Ok(if is_done { Some(lab.regs()) } else { None })
+    let is_done = is_run(alloc, &mut lab, workload, is_attached, count);
+    let regs = lab.regs();
+    drop(lab);
+    Ok(if is_done? { Some(regs) } else { None })
+}
+
+fn bytes_in(regs: Registers) -> [(&'static str, u8); 8] {
+    [
+        ("A", regs.a),
+        ("F", regs.flags.to_byte()),
+        ("B", regs.b),
+        ("C", regs.c),
+        ("D", regs.d),
+        ("E", regs.e),
+        ("H", regs.h),
+        ("L", regs.l),
+    ]
+}
+
+fn print_bytes(rt: &impl Print, bytes: &[(&str, u8)]) -> Result<()> {
+    for (name, byte) in bytes {
+        print!(rt; " {name}={byte:02X}")?;
+    }
+    Ok(())
 }
 
 /// Prints where a workload came to.
 pub fn print_registers(rt: &impl Print, name: &str, regs: Registers) -> Result<()> {
-    print!(rt;
-        "{name} PC={:04X} A={:02X} F={:02X}",
-        regs.pc,
-        regs.a,
-        regs.flags.to_byte()
-    )?;
-    print!(rt;
-        " B={:02X} C={:02X} D={:02X} E={:02X}",
-        regs.b, regs.c, regs.d, regs.e
-    )?;
-    println!(rt; " H={:02X} L={:02X} SP={:04X}", regs.h, regs.l, regs.sp)?;
+    print!(rt; "{name} PC={:04X}", regs.pc)?;
+    print_bytes(rt, &bytes_in(regs))?;
+    println!(rt; " SP={:04X}", regs.sp)?;
     Ok(())
 }
 
@@ -147,10 +171,10 @@ pub fn print_registers(rt: &impl Print, name: &str, regs: Registers) -> Result<(
 /// registers then.
 pub fn work(alloc: Global, name: &str, is_attached: bool, count: u64) -> Result<Registers> {
     let Some(workload) = workload_named(name) else {
-        bail!("the workloads are loop, sort, calls and jump");
+        return fail("the workloads are loop, sort, calls and jump");
     };
     match registers_after(alloc, workload, is_attached, count)? {
         Some(regs) => Ok(regs),
-        None => bail!("the board didn't take the workload"),
+        None => fail("the board didn't take the workload"),
     }
 }

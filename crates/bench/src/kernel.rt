@@ -1,6 +1,7 @@
 //! A kernel over memory with one frontend, and work on it late in its journal.
+use crate::failure::fail;
 use crate::shell::{Shell, Work};
-use anyhow::{Result, bail};
+use anyhow::Result;
 use std::alloc::{AllocError, Global};
 
 // Does units of a work after others. How much the last ones gave.
@@ -26,7 +27,7 @@ fn make(alloc: Global, work: Work, before: u64, count: u64) -> Result<u64, Alloc
 // One more round of so many units, and how much it gave.
 fn round<P: Print>(rt: &P, alloc: Global, shell: &mut Shell, work: Work, units: u64) -> Result<()> {
     let made = shell.units(alloc, work, units)?;
-    println!(rt; "{made}")?;
+    rt.println(made)?;
     Ok(())
 }
 
@@ -49,7 +50,7 @@ fn rounds_by<P: Print>(
 /// much it gave: who times the lines sees how the rate changes as the journal grows.
 pub fn rounds<P: Print>(rt: &P, alloc: Global, word: &str, units: u64, count: u64) -> Result<()> {
     let Some(work) = Work::from_name(word) else {
-        bail!("there is no such work");
+        return fail("there is no such work");
     };
     let mut shell = Shell::new(alloc)?;
     let done = rounds_by(rt, alloc, &mut shell, work, units, count);
@@ -62,6 +63,6 @@ pub fn rounds<P: Print>(rt: &P, alloc: Global, word: &str, units: u64, count: u6
 pub fn work(alloc: Global, word: &str, before: u64, count: u64) -> Result<u64> {
     match Work::from_name(word) {
         Some(work) => Ok(make(alloc, work, before, count)?),
-        None => bail!("there is no such work"),
+        None => fail("there is no such work"),
     }
 }

@@ -1,6 +1,7 @@
 //! The disassembler on mixed bytes, and the assembler on what it lists.
 use crate::assembler::assemble_often;
-use anyhow::{Result, bail};
+use crate::failure::fail;
+use anyhow::Result;
 use i80_dis::listing::listing;
 use i80_rows::memory::MEMORY_SIZE;
 use std::alloc::{AllocError, Global};
@@ -18,23 +19,46 @@ fn mixed_bytes(alloc: Global, count: u64) -> Result<Vec<u8>, AllocError> {
 
 fn listing_of(alloc: Global, bytes: &[u8]) -> Result<String> {
     if bytes.len() > MEMORY_SIZE {
-        bail!("there are more bytes than memory has");
+        return fail("there are more bytes than memory has");
     }
     Ok(listing(alloc, 0, bytes)?)
+}
+
+// How many bytes of text bytes give.
+fn listing_size(alloc: Global, bytes: &[u8]) -> Result<u64> {
+    let text = listing_of(alloc, bytes)?;
+    let size = text.len() as u64;
+    drop(text);
+    Ok(size)
+}
+
+fn list_often(alloc: Global, bytes: &[u8], rounds: u64) -> Result<u64> {
+    let mut size = 0;
+    for _ in 0..rounds {
+        size = listing_size(alloc, bytes)?;
+    }
+    Ok(size)
 }
 
 /// Lists so many mixed bytes, so often. How many bytes of text that gives.
 pub fn work(alloc: Global, count: u64, rounds: u64) -> Result<u64> {
     let bytes = mixed_bytes(alloc, count)?;
-    let mut size = 0;
-    for _ in 0..rounds {
-        size = listing_of(alloc, &bytes)?.len() as u64;
-    }
-    Ok(size)
+    let size = list_often(alloc, &bytes, rounds);
+    drop(bytes);
+    size
+}
+
+fn mixed_listing(alloc: Global, count: u64) -> Result<String> {
+    let bytes = mixed_bytes(alloc, count)?;
+    let text = listing_of(alloc, &bytes);
+    drop(bytes);
+    text
 }
 
 /// Assembles the listing of so many mixed bytes, so often. How many bytes come back.
 pub fn work_back(alloc: Global, count: u64, rounds: u64) -> Result<u64> {
-    let text = listing_of(alloc, &mixed_bytes(alloc, count)?)?;
-    assemble_often(alloc, text.as_str(), rounds)
+    let text = mixed_listing(alloc, count)?;
+    let size = assemble_often(alloc, text.as_str(), rounds);
+    drop(text);
+    size
 }

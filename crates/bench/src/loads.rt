@@ -1,4 +1,5 @@
 //! Loads of a cell with many rows, in rising and in falling addresses.
+ghost use Rattle.std.specs.Prelude.{IfOk};
 ghost use Rattle.lab_core.specs.Events.{Fits};
 
 use crate::board::{is_accepted, load_event};
@@ -19,6 +20,15 @@ fn rows(alloc: Global, count: u64, is_falling: bool) -> Result<String, AllocErro
         write!(text, "ORG {}\nDB 1\n", place.saturating_mul(2))?;
     }
     Ok(text)
+}
+
+fn rows_event(alloc: Global, count: u64, is_falling: bool) -> Result<Event, AllocError>
+    ensures { IfOk result (λ event. Fits event) }
+{
+    let text = rows(alloc, count, is_falling)?;
+    let load = load_event(alloc, text.as_str());
+    drop(text);
+    load
 }
 
 // Makes a load so often, each after a reset. How many were accepted.
@@ -46,8 +56,7 @@ fn load_often(alloc: Global, load: &Event, rounds: u64) -> Result<u64, AllocErro
 
 /// Loads so many rows, so often. How many loads are accepted.
 pub fn work(alloc: Global, is_falling: bool, count: u64, rounds: u64) -> Result<u64> {
-    let text = rows(alloc, count, is_falling)?;
-    let load = load_event(alloc, text.as_str())?;
+    let load = rows_event(alloc, count, is_falling)?;
     let accepted = load_often(alloc, &load, rounds);
     drop(load);
     Ok(accepted?)

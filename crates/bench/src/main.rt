@@ -9,6 +9,7 @@ mod assembler;
 mod board;
 mod calls;
 mod cells;
+mod failure;
 mod frames;
 mod kernel;
 mod listing;
@@ -18,14 +19,16 @@ mod slot;
 mod turnstile;
 mod workloads;
 
-use anyhow::{Result, bail};
+use crate::failure::fail;
+use anyhow::Result;
 use std::alloc::Global;
 use std::env;
+use std::rt::Env;
 use std::sync::Wait;
 use std::thread::Threads;
 
 /// What is done with no word, of each work a little.
-const FEW: [(&str, u64, u64); 17] = [
+const FEW: &[(&str, u64, u64)] = &[
     ("opcodes", 1, 2),
     ("assembler", 1000, 1),
     ("listing", 1000, 1),
@@ -46,7 +49,7 @@ const FEW: [(&str, u64, u64); 17] = [
 ];
 
 /// The workloads that are run with no word, for ten thousand instructions each.
-const RUNS: [(&str, &str); 10] = [
+const RUNS: &[(&str, &str)] = &[
     ("core", "loop"),
     ("core", "sort"),
     ("core", "calls"),
@@ -83,15 +86,7 @@ fn amount<R: Threads + Wait + Sync>(
     }
 }
 
-// Does a work, and prints how much it gave.
-fn report<R: Threads + Wait + Sync + Print>(
-    rt: &R,
-    alloc: Global,
-    word: &str,
-    size: u64,
-    count: u64,
-) -> Result<()> {
-    let made = amount(rt, alloc, word, size, count)?;
+fn print_amount(rt: &impl Print, word: &str, size: u64, count: u64, made: u64) -> Result<()> {
     println!(rt; "{word} {size} {count}: {made}")?;
     Ok(())
 }
@@ -105,34 +100,78 @@ fn run(rt: &impl Print, alloc: Global, word: &str, name: &str, count: u64) -> Re
     board::print_registers(rt, name, regs)
 }
 
+/// What the words ask for.
+#[derive(Clone, Copy)]
+enum Task<'a> {
+    /// A workload, and how many instructions of it, on what the first word says.
+    Run(&'a str, &'a str, u64),
+    /// A work, its size, and how often.
+    Amount(&'a str, u64, u64),
+    /// A work on one kernel, how many units of it a round has, and how many rounds.
+    Rounds(&'a str, u64, u64),
+}
+
+// Does what is asked for, and prints what it came to.
+fn perform<R: Threads + Wait + Sync + Print>(rt: &R, alloc: Global, task: Task<'_>) -> Result<()> {
+    match task {
+        Task::Run(word, name, count) => run(rt, alloc, word, name, count),
+        Task::Amount(word, size, count) => {
+            let made = amount(rt, alloc, word, size, count)?;
+            print_amount(rt, word, size, count, made)
+        }
+        Task::Rounds(word, units, count) => kernel::rounds(rt, alloc, word, units, count),
+    }
+}
+
 fn check<R: Threads + Wait + Sync + Print>(rt: &R, alloc: Global) -> Result<()> {
     for (word, name) in RUNS {
         run(rt, alloc, word, name, 10_000)?;
     }
     for (word, size, count) in FEW {
-        report(rt, alloc, word, size, count)?;
+        perform(rt, alloc, Task::Amount(word, *size, *count))?;
     }
     kernel::rounds(rt, alloc, "fetches", 3, 2)
 }
 
-fn main(rt: HostRuntime) -> Result<()> {
-    let alloc = rt.alloc();
-    let words: Vec<String> = env::args(&rt)?.skip(1).collect(alloc)?;
-    match words.as_slice() {
-        [] => check(&rt, alloc),
-        [word, size, count] => {
-            let (word, count) = (word.as_str(), count.as_str().parse()?);
-            match word {
-                "core" | "plain" | "attached" => run(&rt, alloc, word, size.as_str(), count),
-                _ => report(&rt, alloc, word, size.as_str().parse()?, count),
-            }
-        }
-        [first, work, units, count] if first.as_str() == "rounds" => {
-            let (units, count) = (units.as_str().parse()?, count.as_str().parse()?);
-            kernel::rounds(&rt, alloc, work.as_str(), units, count)
-        }
-        _ => bail!(
-            "usage: bench [WORD SIZE COUNT | core|plain|attached WORKLOAD COUNT | rounds WORD UNITS COUNT]"
-        ),
+const USAGE: &str =
+    "usage: bench [WORD SIZE COUNT | core|plain|attached WORKLOAD COUNT | rounds WORD UNITS COUNT]";
+
+fn number(word: &str) -> Result<u64> {
+    Ok(word.parse()?)
+}
+
+fn task_of<'a>(word: &'a str, size: &'a str, count: &str) -> Result<Task<'a>> {
+    let count = number(count)?;
+    match word {
+        "core" | "plain" | "attached" => Ok(Task::Run(word, size, count)),
+        _ => Ok(Task::Amount(word, number(size)?, count)),
     }
+}
+
+// What words ask for; None where there is none.
+fn task_in<'a>(words: &'a [String]) -> Result<Option<Task<'a>>> {
+    match words {
+        [] => Ok(None),
+        [word, size, count] => Ok(Some(task_of(word.as_str(), size.as_str(), count.as_str())?)),
+        [first, work, units, count] if first.as_str() == "rounds" => {
+            let units = number(units.as_str())?;
+            Ok(Some(Task::Rounds(work.as_str(), units, number(count.as_str())?)))
+        }
+        _ => fail(USAGE),
+    }
+}
+
+fn words_of<R: Env + AllocGlobal>(rt: &R) -> Result<Vec<String>> {
+    Ok(env::args(rt)?.skip(1).collect(rt.alloc())?)
+}
+
+fn main(rt: HostRuntime) -> Result<()> {
+    let words = words_of(&rt)?;
+    let done = match task_in(words.as_slice()) {
+        Ok(Some(task)) => perform(&rt, rt.alloc(), task),
+        Ok(None) => check(&rt, rt.alloc()),
+        Err(error) => Err(error),
+    };
+    drop(words);
+    done
 }

@@ -65,7 +65,10 @@ impl Work {
 }
 
 fn frame_count(alloc: Global, post: &Post) -> Result<u64, AllocError> {
-    Ok(render(alloc, post, KEY, SESSION)?.len() as u64)
+    let frames = render(alloc, post, KEY, SESSION)?;
+    let count = frames.len() as u64;
+    drop(frames);
+    Ok(count)
 }
 
 // How many frames all posts have.

@@ -1,7 +1,8 @@
 //! Turns of several threads on a turnstile.
 ghost use Rattle.std.specs.Prelude.{◌≡◌, ◌<◌, ◌≤◌};
 
-use anyhow::{Result, bail};
+use crate::failure::fail;
+use anyhow::Result;
 use lab_turn::pass::Pass;
 use lab_turn::turnstile::Turnstile;
 use lab_turn_tests::Counter;
@@ -57,7 +58,7 @@ pub fn work<R: Threads + Wait + Sync>(
     count: u64,
 ) -> Result<u64> {
     if threads == 0 || threads > 1024 || count > 1_000_000_000 {
-        bail!("there are too many threads or turns, or none");
+        return fail("there are too many threads or turns, or none");
     }
     count_turns(rt, alloc, threads as u32, count as u32)
 }

@@ -37,7 +37,7 @@ fn request_often<R: Abort>(rt: &R, alloc: Global, kernel: &mut Kernel) {
 const LAGGED: Outcome = Outcome::Refused(KernelFault::Lagged { first: 5001 });
 
 // From which post to fetch, and the outcome: of 9,096 posts the last 4,096 are kept, from 5,001 on.
-const KEPT: [(u64, Outcome); 10] = [
+const KEPT: &[(u64, Outcome)] = &[
     (0, LAGGED),
     (1, LAGGED),
     (4999, LAGGED),
@@ -74,7 +74,7 @@ fn expect_kept<R: Abort>(rt: &R, alloc: Global, kernel: &mut Kernel) {
             rt,
             alloc,
             kernel,
-            Turn::new(Action::Fetch(1, from), from, wanted),
+            Turn::new(Action::Fetch(1, *from), *from, *wanted),
         );
     }
 }
@@ -150,14 +150,14 @@ fn run_slices<R: Abort>(rt: &R, alloc: Global, limit: u32) {
 
 #[test]
 fn journals_of_slices(rt: HostRuntime) {
-    for limit in [1, 2, 3, 64, 1000] {
-        run_slices(&rt, rt.alloc(), limit);
+    for limit in &[1, 2, 3, 64, 1000] {
+        run_slices(&rt, rt.alloc(), *limit);
     }
 }
 
 // A journal with a limit of six entries, at a desk. Calls that the kernel refuses are entries too. Past the
 // limit every seat is told that the journal is full, and these calls are no entries.
-const FULL_JOURNAL: [Row; 12] = [
+const FULL_JOURNAL: &[Row] = &[
     (0, Action::Join(Channel::Shell), Outcome::Joined(1, 1)),
     (1, Action::Leave(9), NO_CONNECTION),
     (
@@ -184,5 +184,5 @@ const NO_CONNECTION: Outcome = Outcome::Refused(KernelFault::NoConnection);
 
 #[test]
 fn a_full_journal(rt: HostRuntime) {
-    run_rows(&rt, rt.alloc(), 6, &FULL_JOURNAL);
+    run_rows(&rt, rt.alloc(), 6, FULL_JOURNAL);
 }

@@ -76,6 +76,22 @@ fn interrupt(turn: u32, connection: u32, from: u64) -> Action {
     }
 }
 
+// The connection of a player after a call, given the one before it.
+fn connection_after(outcome: Outcome, connection: u32) -> u32 {
+    match outcome {
+        Outcome::Joined(joined, _) => joined,
+        _ => connection,
+    }
+}
+
+// From where a player fetches next after a call, given the number before it.
+fn next_after(outcome: Outcome, from: u64) -> u64 {
+    match outcome {
+        Outcome::Joined(_, next) | Outcome::Fetched(_, _, _, next, _) => next,
+        _ => from,
+    }
+}
+
 impl Player {
     /// A player that has made no call yet.
     pub fn new(alloc: Global, pass: Pass) -> Player
@@ -92,14 +108,8 @@ impl Player {
     fn note(&mut self, outcome: Outcome)
         ensures { self.new.pass ≡ self.old.pass }
     {
-        match outcome {
-            Outcome::Joined(connection, from) => {
-                self.connection = connection;
-                self.from = from;
-            }
-            Outcome::Fetched(_, _, _, next, _) => self.from = next,
-            _ => {}
-        }
+        self.connection = connection_after(outcome, self.connection);
+        self.from = next_after(outcome, self.from);
     }
 
     /// Makes a call.

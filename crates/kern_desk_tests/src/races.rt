@@ -7,7 +7,7 @@ use crate::players::{Part, Player, Script};
 use crate::turns::{Turn, expect_at};
 use jup_wire::channel::Channel;
 use kern_desk::desks::{MOST_ENTRIES, close_desk, open_desk};
-use kern_desk::seated::{Desk, Pass};
+use kern_desk::seated::{Desk, Pass, Seated};
 use kern_test_kit::actions::{Action, Question};
 use std::alloc::Global;
 use std::process::Abort;
@@ -33,7 +33,7 @@ struct Round {
     parts: [Part; 3],
 }
 
-// Plays a round.
+// Plays a round. The first player is that of the last seat.
 fn play_round<R: Threads + Wait + Abort + Sync>(
     rt: &R,
     alloc: Global,
@@ -46,14 +46,15 @@ fn play_round<R: Threads + Wait + Abort + Sync>(
     ensures { All (λ p. p.pass.turnstile ≡ desk.now) players.new }
 {
     let Round { threads, parts } = round;
+    let last = players.len().saturating_sub(1);
     thread::for_each_mut(
         rt,
         players,
         threads,
-        &|seat: usize, player: &mut Player|
+        &|place: usize, player: &mut Player|
             requires { player.now.pass.turnstile ≡ desk.now }
             ensures { player.exit.now.pass.turnstile ≡ desk.entry.now }
-        { player.play(rt, alloc, desk, part_of(parts, seat)) },
+        { player.play(rt, alloc, desk, part_of(parts, last.saturating_sub(place))) },
     );
 }
 
@@ -64,7 +65,7 @@ fn part_of(parts: [Part; 3], seat: usize) -> Part {
     }
 }
 
-// Makes calls one after the other.
+// Makes calls one after the other. The first player is that of the last seat.
 fn make_calls<R: Wait + Abort>(
     rt: &R,
     alloc: Global,
@@ -77,7 +78,8 @@ fn make_calls<R: Wait + Abort>(
 {
     for (seat, action) in calls {
         assert!(rt; *seat < players.len());
-        players[*seat].make(rt, alloc, desk, *action);
+        let place = players.len() - 1 - *seat;
+        players[place].make(rt, alloc, desk, *action);
     }
 }
 
@@ -104,7 +106,8 @@ fn play_game<R: Threads + Wait + Abort + Sync>(
     play_round(rt, alloc, desk, players, last);
 }
 
-// The players with these passes, by seat.
+// The players with these passes, that of the last seat first: so neither they nor their passes, when these
+// are taken back, have to be moved for one another.
 fn players_of<R: Abort>(rt: &R, alloc: Global, desk: &Desk, mut passes: Vec<Pass>) -> Vec<Player>
     requires { All (λ p. p.turnstile ≡ desk.now) passes.items }
     ensures { All (λ p. p.pass.turnstile ≡ desk.now) result.items }
@@ -112,17 +115,11 @@ fn players_of<R: Abort>(rt: &R, alloc: Global, desk: &Desk, mut passes: Vec<Pass
     let mut players = Vec::new(alloc);
     for _ in 0..passes.len() {
         let pass = passes.pop().expect(rt, "a pass");
-        put_first(rt, desk, &mut players, Player::new(alloc, pass));
+        players
+            .push(Player::new(alloc, pass))
+            .expect(rt, "memory for a player");
     }
     players
-}
-
-fn put_first<R: Abort>(rt: &R, desk: &Desk, players: &mut Vec<Player>, player: Player)
-    requires player { player.pass.turnstile ≡ desk.now }
-    requires others { All (λ p. p.pass.turnstile ≡ desk.now) players.old.items }
-    ensures { All (λ p. p.pass.turnstile ≡ desk.now) players.new.items }
-{
-    players.insert(0, player).expect(rt, "memory for a player");
 }
 
 // The last of the players.
@@ -150,24 +147,34 @@ fn passes_of<R: Abort>(
         let player = take_player(desk, &mut players).expect(rt, "a player");
         let Player { pass, turns, .. } = player;
         passes.push(pass).expect(rt, "memory for a pass");
-        made.insert(0, turns)
-            .expect(rt, "memory for a player's calls");
+        made.push(turns).expect(rt, "memory for a player's calls");
     }
     passes
 }
 
-// Plays a game at a new desk, and returns the entries of its journal.
-fn entries_of<R: Threads + Wait + Abort + Sync>(rt: &R, alloc: Global, game: &Game) -> Vec<Entry> {
+// Plays a game at a new desk, and closes it. The players' turns go into `made`, by seat.
+fn play<R: Threads + Wait + Abort + Sync>(
+    rt: &R,
+    alloc: Global,
+    game: &Game,
+    made: &mut Vec<Vec<Turn>>,
+) -> Seated {
     let seats = game.seats;
     assert!(rt; 0 < seats && seats <= 3);
     let (desk, passes) = open_desk(alloc, MOST_ENTRIES, seats).expect(rt, "a desk");
     let mut players = players_of(rt, alloc, &desk, passes);
     play_game(rt, alloc, &desk, players.as_mut_slice(), game);
+    let passes = passes_of(rt, alloc, &desk, players, made);
+    close_desk(desk, passes).expect(rt, "all passes")
+}
+
+// Plays a game, and returns the entries of its journal.
+fn entries_of<R: Threads + Wait + Abort + Sync>(rt: &R, alloc: Global, game: &Game) -> Vec<Entry> {
     let mut made = Vec::new(alloc);
-    let passes = passes_of(rt, alloc, &desk, players, &mut made);
-    let seated = close_desk(desk, passes).expect(rt, "all passes");
+    let seated = play(rt, alloc, game, &mut made);
     let entries = merge(rt, alloc, &seated, made.as_slice());
     drop(seated);
+    drop(made);
     entries
 }
 
@@ -209,7 +216,7 @@ fn posts_to_listener(entries: &[Entry]) -> usize {
 
 // One thread sends 300 requests, each of which is answered by a reply between busy and idle, and fetches
 // the replies. The other joins and subscribes at some moment among these, and fetches.
-const TWO: Game = Game {
+const TWO: &Game = &Game {
     seats: 2,
     first: &[],
     race: [
@@ -233,7 +240,7 @@ fn check_two<R: Abort>(rt: &R, entries: &[Entry]) {
 
 #[test]
 fn two_threads(rt: HostRuntime) {
-    let entries = entries_of(&rt, rt.alloc(), &TWO);
+    let entries = entries_of(&rt, rt.alloc(), TWO);
     check_two(&rt, entries.as_slice());
     replay(&rt, rt.alloc(), entries.as_slice());
 }
@@ -241,7 +248,7 @@ fn two_threads(rt: HostRuntime) {
 // One thread makes the slices of a cell that doesn't end by itself, one sends 40 requests and interrupts
 // it, one listens. The Subscribe makes 1 post, the beginning of the cell 2, the 40 requests 120, the
 // interrupt 6: the cell's error, execute_reply and idle, and its own reply, between busy and idle.
-const THREE: Game = Game {
+const THREE: &Game = &Game {
     seats: 3,
     first: &[
         (1, Action::Join(Channel::Shell)),
@@ -286,7 +293,7 @@ fn check_three<R: Abort>(rt: &R, entries: &[Entry]) {
 
 #[test]
 fn three_threads(rt: HostRuntime) {
-    let entries = entries_of(&rt, rt.alloc(), &THREE);
+    let entries = entries_of(&rt, rt.alloc(), THREE);
     check_three(&rt, entries.as_slice());
     replay(&rt, rt.alloc(), entries.as_slice());
 }

@@ -79,7 +79,7 @@ pub fn run_rows<R: Wait + Abort>(rt: &R, alloc: Global, limit: u32, rows: &[Row]
 }
 
 // Six turns with three passes.
-const SIX_TURNS: [Row; 6] = [
+const SIX_TURNS: &[Row] = &[
     (0, Action::Join(Channel::Shell), Outcome::Joined(1, 1)),
     (1, Action::Join(Channel::Iopub), Outcome::Joined(2, 1)),
     (2, Action::Slice, Outcome::Idle),
@@ -94,11 +94,11 @@ const SIX_TURNS: [Row; 6] = [
 
 #[test]
 fn six_turns(rt: HostRuntime) {
-    run_rows(&rt, rt.alloc(), MOST_ENTRIES, &SIX_TURNS);
+    run_rows(&rt, rt.alloc(), MOST_ENTRIES, SIX_TURNS);
 }
 
 // A cell from its request to its end, and a shutdown, with the numbers of all posts.
-const SESSION: [Row; 20] = [
+const SESSION: &[Row] = &[
     (0, Action::Join(Channel::Shell), Outcome::Joined(1, 1)),
     (1, Action::Join(Channel::Iopub), Outcome::Joined(2, 1)),
     (1, Action::Subscribe(2), Outcome::Subscribed),
@@ -163,12 +163,14 @@ const SESSION: [Row; 20] = [
 
 #[test]
 fn a_session(rt: HostRuntime) {
-    run_rows(&rt, rt.alloc(), MOST_ENTRIES, &SESSION);
+    run_rows(&rt, rt.alloc(), MOST_ENTRIES, SESSION);
 }
 
 // The outcome of a fetch, and whether its post 5 shows the switches as 05AH.
 fn outcome_with_switches(answer: Result<Reply, KernelFault>) -> (Outcome, bool) {
-    (outcome_of(&answer), shows_switches(&answer))
+    let seen = (outcome_of(&answer), shows_switches(&answer));
+    drop(answer);
+    seen
 }
 
 fn shows_switches(answer: &Result<Reply, KernelFault>) -> bool {
@@ -251,7 +253,7 @@ fn close_late<R: Abort>(rt: &R, desk: Desk, mut passes: Vec<Pass>) -> Seated
     close_desk(desk, passes).expect(rt, "all passes")
 }
 
-const SWITCHES: [Row; 4] = [
+const SWITCHES: &[Row; 4] = &[
     (0, Action::Join(Channel::Control), Outcome::Joined(1, 1)),
     (
         0,
@@ -266,11 +268,14 @@ const SWITCHES: [Row; 4] = [
     ),
 ];
 
+fn run_switches<R: Wait + Abort>(rt: &R, alloc: Global) {
+    let (desk, mut passes) = open_desk(alloc, MOST_ENTRIES, 2).expect(rt, "a desk");
+    expect_switches(rt, alloc, &desk, passes.as_mut_slice(), SWITCHES);
+    let seated = close_late(rt, desk, passes);
+    check_closed(rt, seated, SWITCHES, false);
+}
+
 #[test]
 fn two_seats(rt: HostRuntime) {
-    let alloc = rt.alloc();
-    let (desk, mut passes) = open_desk(alloc, MOST_ENTRIES, 2).expect(&rt, "a desk");
-    expect_switches(&rt, alloc, &desk, passes.as_mut_slice(), &SWITCHES);
-    let seated = close_late(&rt, desk, passes);
-    check_closed(&rt, seated, &SWITCHES, false);
+    run_switches(&rt, rt.alloc());
 }

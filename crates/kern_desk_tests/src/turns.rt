@@ -68,5 +68,7 @@ pub fn act<R: Abort>(rt: &R, alloc: Global, kernel: &mut Kernel, call: TimedActi
 }
 
 fn take_outcome(answer: Result<Reply, KernelFault>) -> Outcome {
-    outcome_of(&answer)
+    let outcome = outcome_of(&answer);
+    drop(answer);
+    outcome
 }

@@ -1,9 +1,10 @@
 //! Connections that break off.
 
 use crate::bytes::{DEALER, GREETING, HEARS, PUB, ROUTER, RUNS, SUB};
+use crate::checks::expect_at;
 use crate::gates::Plan;
-use crate::guests::{AT_ONCE, guest_of, serve, was_sent};
-use crate::replay::{Ask, Posts, Script};
+use crate::guests::{AT_ONCE, end_of, guests_of, serve, was_sent, written};
+use crate::replay::{Ask, Posts, Replay, Script};
 use crate::signals::Signals;
 use jup_wire::channel::Channel;
 use kern_core::call::Call;
@@ -127,39 +128,77 @@ fn is_front_of_handshake(bytes: &[u8], channel: Channel, count: usize) -> bool {
     bytes.starts_with(GREETING) && bytes.get(GREETING.len()..) == Some(ready)
 }
 
-fn visit_front<R: Threads + Wait + Clock + Abort + Sync>(
+// A guest that breaks off: its whole script, the numbers of bytes after the handshake at which a message
+// ends, and after how many bytes it does.
+#[derive(Clone, Copy)]
+struct Break {
+    whole: Script,
+    ends: [usize; 2],
+    count: usize,
+}
+
+fn check_bytes<R: Abort>(rt: &R, alloc: Global, seated: &Seated, broken: Break, bytes: &[u8]) {
+    let Break { whole, count, .. } = broken;
+    let is_sent = if count < whole.hello.len() {
+        is_front_of_handshake(bytes, whole.channel, count)
+    } else {
+        let replay = Replay {
+            seated,
+            scripts: &[front_of(rt, whole, count)],
+            guest: 0,
+            posts: Posts::Fetched,
+        };
+        was_sent(rt, alloc, replay, bytes)
+    };
+    expect_at(rt, is_sent, "other bytes were sent behind", count);
+}
+
+fn check_calls<R: Abort>(rt: &R, seated: &Seated, broken: Break) {
+    let Break { whole, ends, count } = broken;
+    let has_called = calls_of(seated, 0) == calls_behind(whole, ends, count);
+    expect_at(rt, has_called, "other calls were made behind", count);
+}
+
+fn visit_front<R: Threads + Wait + Clock + Abort + Sync>(rt: &R, alloc: Global, broken: Break) {
+    let signals = Signals::new();
+    let scripts = [front_of(rt, broken.whole, broken.count)];
+    let mut guests = guests_of(rt, alloc, &signals, &scripts, PLAN);
+    let served = serve(rt, alloc, guests.as_mut_slice(), &signals, PLAN);
+    let served = served.expect(rt, "memory to begin");
+    check_calls(rt, &served.hosted.seated, broken);
+    check_bytes(
+        rt,
+        alloc,
+        &served.hosted.seated,
+        broken,
+        written(guests.as_slice(), 0),
+    );
+    drop(served);
+    let end = end_of(guests.as_slice(), 0);
+    drop(guests);
+    drop(signals);
+    let has_ended = end == Some(end_behind(broken.whole, broken.count));
+    expect_at(rt, has_ended, "it ended otherwise behind", broken.count);
+}
+
+fn visit_fronts<R: Threads + Wait + Clock + Abort + Sync>(
     rt: &R,
     alloc: Global,
     whole: Script,
     ends: [usize; 2],
-    count: usize,
 ) {
-    let signals = Signals::new();
-    let script = front_of(rt, whole, count);
-    let mut guests = [guest_of(rt, alloc, &signals, script, PLAN)];
-    let served = serve(rt, alloc, &mut guests, &signals, PLAN).expect(rt, "memory to begin");
-    let seated = &served.hosted.seated;
-    let has_called = calls_of(seated, 0) == calls_behind(whole, ends, count);
-    let bytes = guests[0].outlet().to.as_slice();
-    let is_sent = if count < whole.hello.len() {
-        is_front_of_handshake(bytes, whole.channel, count)
-    } else {
-        was_sent(rt, alloc, seated, &[script], (0, bytes), Posts::Fetched)
-    };
-    drop(served);
-    let has_ended = guests[0].end() == Some(end_behind(whole, count));
-    assert!(rt; has_ended, "it ended otherwise behind {count} bytes");
-    assert!(rt; has_called, "other calls were made behind {count} bytes");
-    assert!(rt; is_sent, "other bytes were sent behind {count} bytes");
+    for count in 0..whole
+        .hello
+        .len()
+        .saturating_add(whole.bytes.len())
+        .saturating_add(1)
+    {
+        visit_front(rt, alloc, Break { whole, ends, count });
+    }
 }
 
 #[test]
 fn a_guest_breaks_off_at_each_byte(rt: HostRuntime) {
-    let alloc = rt.alloc();
-    for count in 0..DEALER.len() + RUNS.len() + 1 {
-        visit_front(&rt, alloc, ASKS, [99, RUNS.len()], count);
-    }
-    for count in 0..SUB.len() + HEARS.len() + 1 {
-        visit_front(&rt, alloc, HEARS_ALL, [HEARS.len(), usize::MAX], count);
-    }
+    visit_fronts(&rt, rt.alloc(), ASKS, [99, RUNS.len()]);
+    visit_fronts(&rt, rt.alloc(), HEARS_ALL, [HEARS.len(), usize::MAX]);
 }

@@ -1,10 +1,11 @@
 //! Guests over memory, and what they were sent.
-ghost use Rattle.std.specs.Prelude.{All};
+ghost use Rattle.std.specs.Prelude.{◌≡◌, ◌≤◌, All, length};
+ghost use Rattle.kern_net.specs.Gates.{no_polls};
 ghost use Rattle.kern_host.specs.Guests.{IsComing};
 
 use crate::bytes::{GREETING, PUB, ROUTER};
 use crate::gates::{InGate, OutGate, Plan, WorkGate};
-use crate::replay::{Posts, Script, sent_to};
+use crate::replay::{Replay, Script, sent_to};
 use crate::signals::{Counts, Signals};
 use crate::streams::{HeldInlet, ToldOutlet};
 use base_streams::memory::{Sink, Source};
@@ -41,6 +42,15 @@ pub type MemoryGuest<'a, C> = Guest<
     OutGate<'a, C>,
 >;
 
+// What a guest writes.
+fn written_by<R: Abort>(rt: &R, alloc: Global, script: Script) -> Vec<u8> {
+    let mut bytes = script.hello.to_vec(alloc).expect(rt, "memory for bytes");
+    bytes
+        .extend_from_slice(script.bytes)
+        .expect(rt, "memory for bytes");
+    bytes
+}
+
 /// A guest that does what a script says.
 pub fn guest_of<'a, R: Abort + Clock>(
     rt: &'a R,
@@ -51,14 +61,11 @@ pub fn guest_of<'a, R: Abort + Clock>(
 ) -> MemoryGuest<'a, R>
     ensures { IsComing result }
 {
-    let mut bytes = script.hello.to_vec(alloc).expect(rt, "memory for bytes");
-    bytes
-        .extend_from_slice(script.bytes)
-        .expect(rt, "memory for bytes");
+    let written = written_by(rt, alloc, script);
     Guest::new(
         script.channel,
         HeldInlet {
-            from: Source::new(bytes, 4096, 9999),
+            from: Source::new(written, 4096, 9999),
             signals,
             after: script.after,
             clock: rt,
@@ -98,6 +105,30 @@ pub struct Served {
     pub answers: [u64; 3],
 }
 
+fn host_all<R: Threads + Wait + Clock + Abort + Sync>(
+    rt: &R,
+    alloc: Global,
+    guests: &mut [MemoryGuest<'_, R>],
+    gate: &mut WorkGate<'_, R>,
+) -> Option<Hosted>
+    requires guests { All IsComing guests.old }
+    requires few { length guests.old ≤ 511 }
+    requires gate { gate.old.polls ≡ no_polls }
+{
+    let kernel = Kernel::new(alloc, MOST_ENTRIES).expect(rt, "a kernel");
+    let seal = Seal {
+        key: b"",
+        session: "S",
+    };
+    match host(rt, alloc, kernel, &seal, gate, guests) {
+        Ok(hosted) => Some(hosted),
+        Err(kernel) => {
+            drop(kernel);
+            None
+        }
+    }
+}
+
 /// Serves guests with a new kernel; None if there is no memory to begin.
 pub fn serve<R: Threads + Wait + Clock + Abort + Sync>(
     rt: &R,
@@ -111,22 +142,10 @@ pub fn serve<R: Threads + Wait + Clock + Abort + Sync>(
     if guests.len() > MOST_GUESTS {
         return None;
     }
-    let kernel = Kernel::new(alloc, MOST_ENTRIES).expect(rt, "a kernel");
     let mut gate = WorkGate::new(rt, signals, plan);
-    let seal = Seal {
-        key: b"",
-        session: "S",
-    };
-    match host(rt, alloc, kernel, &seal, &mut gate, guests) {
-        Ok(hosted) => Some(Served {
-            hosted,
-            answers: gate.answers(),
-        }),
-        Err(kernel) => {
-            drop(kernel);
-            None
-        }
-    }
+    let hosted = host_all(rt, alloc, guests, &mut gate)?;
+    let answers = gate.answers();
+    Some(Served { hosted, answers })
 }
 
 /// Whether a visit ended as it does if all goes well.
@@ -159,21 +178,23 @@ pub fn is_handshake_and(bytes: &[u8], channel: Channel, others: &[u8]) -> bool {
     behind(rest, ready) == Some(others)
 }
 
-/// Whether a guest was sent the kernel's handshake, and then these posts.
-pub fn was_sent<R: Abort>(
-    rt: &R,
-    alloc: Global,
-    seated: &Seated,
-    scripts: &[Script],
-    guest: (usize, &[u8]),
-    posts: Posts,
-) -> bool {
-    let (place, bytes) = guest;
-    let Some(script) = scripts.get(place) else {
+/// Whether a guest was sent the kernel's handshake, and then the posts of a replay.
+pub fn was_sent<R: Abort>(rt: &R, alloc: Global, replay: Replay<'_>, bytes: &[u8]) -> bool {
+    let Some(script) = replay.scripts.get(replay.guest) else {
         return false;
     };
-    let sent = sent_to(rt, alloc, seated, scripts, place, posts);
-    is_handshake_and(bytes, script.channel, sent.as_slice())
+    let sent = sent_to(rt, alloc, replay);
+    let is_so = is_handshake_and(bytes, script.channel, sent.as_slice());
+    drop(sent);
+    is_so
+}
+
+/// How a guest's visit ended, if it has.
+pub fn end_of<R: Clock>(guests: &[MemoryGuest<'_, R>], place: usize) -> Option<VisitEnd> {
+    match guests.get(place) {
+        Some(guest) => guest.end(),
+        None => None,
+    }
 }
 
 /// What a guest was written.

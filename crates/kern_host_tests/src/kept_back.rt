@@ -1,10 +1,10 @@
 //! A connection whose hooks keep its posts back.
 ghost use Rattle.std.specs.Prelude.{Some};
-ghost use Rattle.kern_host.specs.Guests.{AreOf};
+ghost use Rattle.kern_host.specs.Guests.{AreOf, IsComing};
 
 use crate::bytes::{DEALER, RUNS};
 use crate::gates::{InGate, OutGate, Plan};
-use crate::guests::{AT_ONCE, guest_of, is_handshake_and};
+use crate::guests::{AT_ONCE, MemoryGuest, guest_of, is_handshake_and};
 use crate::replay::Script;
 use crate::signals::Signals;
 use jup_wire::channel::Channel;
@@ -21,6 +21,7 @@ use std::process::Abort;
 use std::rt::Clock;
 use std::sync::Wait;
 use std::sync::atomic::{AtomicU32, Ordering};
+use std::thread::Threads;
 
 // Hooks that let nothing be written. A digit of the sum for each says how often it was called.
 #[derive(Drop)]
@@ -72,18 +73,16 @@ fn open<R: Abort>(rt: &R, alloc: Global) -> (Desk, Passes)
     (desk, Passes { reading, writing })
 }
 
-#[test]
-fn hooks_keep_posts_back(rt: HostRuntime) {
-    let alloc = rt.alloc();
-    let signals = Signals::new();
-    let script = Script {
-        channel: Channel::Shell,
-        hello: DEALER,
-        bytes: RUNS,
-        after: AT_ONCE,
-        asks: &[],
-    };
-    let (desk, passes) = open(&rt, alloc);
+// Visits a guest at a new desk.
+fn visit_once<R: Threads + Wait + Clock + Abort + Sync>(
+    rt: &R,
+    alloc: Global,
+    hooks: &KeepBack,
+    guest: &mut MemoryGuest<'_, R>,
+)
+    requires { IsComing guest.old }
+{
+    let (desk, passes) = open(rt, alloc);
     let server = Server {
         desk: &desk,
         seal: Seal {
@@ -91,17 +90,12 @@ fn hooks_keep_posts_back(rt: HostRuntime) {
             session: "S",
         },
     };
-    let hooks = KeepBack {
-        calls: AtomicU32::new(0),
-    };
-    let plan = Plan {
-        polls: 2,
-        over: u32::MAX,
-        holds: false,
-    };
-    let mut guest = guest_of(&rt, alloc, &signals, script, plan);
     guest.sit(passes);
-    visit(&rt, alloc, &server, &hooks, &mut guest);
+    visit(rt, alloc, &server, hooks, guest);
+    drop(desk);
+}
+
+fn check_guest<R: Clock + Abort>(rt: &R, guest: &MemoryGuest<'_, R>) {
     let has_ended = guest.end()
         == Some(VisitEnd::Served(Ends {
             reading: PumpEnd::PeerEnded,
@@ -111,6 +105,43 @@ fn hooks_keep_posts_back(rt: HostRuntime) {
     assert!(rt; has_ended, "it ended otherwise");
     let is_silent = is_handshake_and(guest.outlet().to.as_slice(), Channel::Shell, b"");
     assert!(rt; is_silent, "something was written");
+}
+
+const SCRIPT: Script = Script {
+    channel: Channel::Shell,
+    hello: DEALER,
+    bytes: RUNS,
+    after: AT_ONCE,
+    asks: &[],
+};
+
+const PLAN: Plan = Plan {
+    polls: 2,
+    over: u32::MAX,
+    holds: false,
+};
+
+fn visit_guest<R: Threads + Wait + Clock + Abort + Sync>(
+    rt: &R,
+    alloc: Global,
+    signals: &Signals,
+    hooks: &KeepBack,
+) {
+    let mut guest = guest_of(rt, alloc, signals, SCRIPT, PLAN);
+    visit_once(rt, alloc, hooks, &mut guest);
+    check_guest(rt, &guest);
+    drop(guest);
+}
+
+#[test]
+fn hooks_keep_posts_back(rt: HostRuntime) {
+    let signals = Signals::new();
+    let hooks = KeepBack {
+        calls: AtomicU32::new(0),
+    };
+    visit_guest(&rt, rt.alloc(), &signals, &hooks);
+    drop(signals);
     let calls = hooks.calls.load(Ordering::SeqCst);
+    drop(hooks);
     assert_eq!(rt; calls, 111_111);
 }

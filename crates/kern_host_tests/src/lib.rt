@@ -10,6 +10,8 @@ mod broken;
 #[cfg(test)]
 mod bytes;
 #[cfg(test)]
+mod checks;
+#[cfg(test)]
 mod gates;
 #[cfg(test)]
 mod guests;

@@ -58,7 +58,6 @@ pub struct Counts {
 }
 
 /// The signals of a test.
-#[derive(Drop)]
 pub struct Signals {
     /// The calls of readers.
     pub heard: Signal,
@@ -68,6 +67,18 @@ pub struct Signals {
     pub held: Signal,
     /// How often a thread gave up waiting.
     pub late: Signal,
+}
+
+// Written out so that every place that drops it calls one function.
+impl Drop for Signals {
+    fn drop(self) {
+        let Self {
+            heard: _,
+            done: _,
+            held: _,
+            late: _,
+        } = self;
+    }
 }
 
 impl Signals {

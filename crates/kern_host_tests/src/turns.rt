@@ -7,9 +7,12 @@ use crate::bytes::{
     ASKS_A, ASKS_B, ASKS_C, ASKS_D, ATTACHES, DEALER, HEARS, LOOPS, PAUSED, PAUSES, REFUSED,
     SESSION, SUB, after, count_of,
 };
+use crate::checks::expect_at;
 use crate::gates::Plan;
-use crate::guests::{AT_ONCE, MemoryGuest, guests_of, is_served, serve, was_sent, written};
-use crate::replay::{Ask, Posts, Script};
+use crate::guests::{
+    AT_ONCE, MemoryGuest, Served, end_of, guests_of, is_served, serve, was_sent, written,
+};
+use crate::replay::{Ask, Posts, Replay, Script};
 use crate::signals::{Counts, Signals};
 use jup_wire::channel::Channel;
 use kern_desk::seated::Seated;
@@ -17,6 +20,8 @@ use kern_net::end::PumpEnd;
 use std::alloc::Global;
 use std::process::Abort;
 use std::rt::Clock;
+use std::sync::Wait;
+use std::thread::Threads;
 
 // What comes after the subscription, the attachment, the program's begin, and the four connections' requests.
 // A subscription is told the kernel's state, which is idle, so it counts as a request that is done.
@@ -60,7 +65,7 @@ const INFO: &str = "kernel_info_request";
 
 const COMMS: &str = "comm_info_request";
 
-const SCRIPTS: [Script; 8] = [
+const SCRIPTS: &[Script] = &[
     Script {
         channel: Channel::Iopub,
         hello: SUB,
@@ -143,7 +148,7 @@ const PLAN: Plan = Plan {
 };
 
 // The headers of each connection's requests, as the answers repeat them.
-const HEADERS: [[&[u8]; 3]; 4] = [
+const HEADERS: &[[&[u8]; 3]] = &[
     [
         b"{\"msg_id\":\"a-1\"",
         b"{\"msg_id\":\"a-2\"",
@@ -167,7 +172,7 @@ const HEADERS: [[&[u8]; 3]; 4] = [
 ];
 
 // Whether answers to three requests were written in their order, and no others.
-fn are_answered(bytes: &[u8], headers: [&[u8]; 3]) -> bool {
+fn are_answered(bytes: &[u8], headers: &[&[u8]]) -> bool {
     let mut rest = bytes;
     for header in headers {
         let Some(behind) = after(rest, header) else {
@@ -178,48 +183,77 @@ fn are_answered(bytes: &[u8], headers: [&[u8]; 3]) -> bool {
     count_of(bytes, SESSION) == 3
 }
 
-fn check_guest<R: Abort + Clock>(
+fn check_guest<R: Abort>(rt: &R, alloc: Global, seated: &Seated, guest: usize, bytes: &[u8]) {
+    let replay = Replay {
+        seated,
+        scripts: SCRIPTS,
+        guest,
+        posts: Posts::All,
+    };
+    let is_sent = was_sent(rt, alloc, replay, bytes);
+    expect_at(rt, is_sent, "other bytes were sent to guest", guest);
+    let is_refused = count_of(bytes, REFUSED) > 0;
+    expect_at(rt, !is_refused, "a request was refused of guest", guest);
+}
+
+fn check_guests<R: Abort + Clock>(
     rt: &R,
     alloc: Global,
     seated: &Seated,
-    place: usize,
-    guest: &MemoryGuest<'_, R>,
+    guests: &[MemoryGuest<'_, R>],
 ) {
-    let has_ended = is_served(guest.end());
-    assert!(rt; has_ended, "guest {place} ended otherwise");
-    let bytes = guest.outlet().to.as_slice();
-    let is_sent = was_sent(rt, alloc, seated, &SCRIPTS, (place, bytes), Posts::All);
-    assert!(rt; is_sent, "guest {place} was sent other bytes");
-    let is_refused = count_of(bytes, REFUSED) > 0;
-    assert!(rt; !is_refused, "a request of guest {place} was refused");
+    for place in 0..SCRIPTS.len() {
+        let has_ended = is_served(end_of(guests, place));
+        expect_at(rt, has_ended, "another end of guest", place);
+        check_guest(rt, alloc, seated, place, written(guests, place));
+    }
 }
 
 fn check_answers<R: Abort + Clock>(rt: &R, guests: &[MemoryGuest<'_, R>]) {
     for (place, headers) in HEADERS.iter().enumerate() {
-        let is_answered = are_answered(written(guests, FOUR + place), *headers);
-        assert!(rt; is_answered, "client {place} of four got other answers");
+        let is_answered = are_answered(written(guests, FOUR + place), headers);
+        expect_at(rt, is_answered, "other answers were given to client", place);
     }
     let pauses = count_of(written(guests, 7), PAUSED);
-    assert!(rt; pauses == 1, "the pause was answered {pauses} times");
+    expect_at(
+        rt,
+        pauses == 1,
+        "of the answers to the pause there aren't one, but",
+        pauses as usize,
+    );
+}
+
+fn check_served<R: Abort + Clock>(
+    rt: &R,
+    alloc: Global,
+    served: &Served,
+    guests: &[MemoryGuest<'_, R>],
+) {
+    check_guests(rt, alloc, &served.hosted.seated, guests);
+    check_answers(rt, guests);
+    // The paused program leaves the worker nothing to do.
+    let has_worked = served.hosted.end == PumpEnd::Ended && served.answers == [3, 0, 1];
+    assert!(rt; has_worked, "the worker ended otherwise");
+}
+
+fn serve_guests<R: Threads + Wait + Clock + Abort + Sync>(
+    rt: &R,
+    alloc: Global,
+    signals: &Signals,
+) {
+    let mut guests = guests_of(rt, alloc, signals, SCRIPTS, PLAN);
+    let served = serve(rt, alloc, guests.as_mut_slice(), signals, PLAN);
+    let served = served.expect(rt, "memory to begin");
+    check_served(rt, alloc, &served, guests.as_slice());
+    drop(served);
+    drop(guests);
 }
 
 #[test]
 fn calls_come_between_slices(rt: HostRuntime) {
-    let alloc = rt.alloc();
     let signals = Signals::new();
-    let mut guests = guests_of(&rt, alloc, &signals, &SCRIPTS, PLAN);
-    let served = serve(&rt, alloc, guests.as_mut_slice(), &signals, PLAN).expect(
-        &rt,
-        "memory to begin",
-    );
-    for (place, guest) in guests.iter().enumerate() {
-        check_guest(&rt, alloc, &served.hosted.seated, place, guest);
-    }
-    check_answers(&rt, guests.as_slice());
-    // The paused program leaves the worker nothing to do.
-    let has_worked = served.hosted.end == PumpEnd::Ended && served.answers == [3, 0, 1];
-    drop(served);
-    assert!(&rt; has_worked, "the worker ended otherwise");
+    serve_guests(&rt, rt.alloc(), &signals);
     let was_in_time = signals.held.count() == 1 && signals.late.count() == 0;
+    drop(signals);
     assert!(&rt; was_in_time, "a thread waited in vain");
 }

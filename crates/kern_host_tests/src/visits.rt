@@ -2,9 +2,10 @@
 //! ZMTP peer, and the last shuts the kernel down once the requests of the others are done.
 
 use crate::bytes::{ASKS, DEALER, GREETING, HEARS, IDLE, RUNS, SHUTS, STRANGE, SUB, count_of};
+use crate::checks::expect_at;
 use crate::gates::Plan;
-use crate::guests::{AT_ONCE, MemoryGuest, guests_of, is_served, serve, was_sent, written};
-use crate::replay::{Ask, Posts, Script};
+use crate::guests::{AT_ONCE, MemoryGuest, end_of, guests_of, is_served, serve, was_sent, written};
+use crate::replay::{Ask, Posts, Replay, Script};
 use crate::signals::{Counts, Signals};
 use jup_wire::channel::Channel;
 use kern_desk::seated::Seated;
@@ -13,6 +14,8 @@ use kern_net::end::PumpEnd;
 use std::alloc::Global;
 use std::process::Abort;
 use std::rt::Clock;
+use std::sync::Wait;
+use std::thread::Threads;
 
 const HEARD: Counts = Counts {
     heard: 1,
@@ -20,7 +23,7 @@ const HEARD: Counts = Counts {
     held: 0,
 };
 
-const SCRIPTS: [Script; 5] = [
+const SCRIPTS: &[Script] = &[
     Script {
         channel: Channel::Iopub,
         hello: SUB,
@@ -81,52 +84,65 @@ const PLAN: Plan = Plan {
 
 // A guest was sent what the journal's calls give if they are made again. The one that isn't a peer was sent a
 // greeting.
-fn check_guest<R: Abort>(rt: &R, alloc: Global, seated: &Seated, place: usize, bytes: &[u8]) {
-    let is_sent = match place {
-        STRANGER => bytes == GREETING,
-        _ => was_sent(rt, alloc, seated, &SCRIPTS, (place, bytes), Posts::All),
+fn check_guest<R: Abort>(rt: &R, alloc: Global, seated: &Seated, guest: usize, bytes: &[u8]) {
+    let replay = Replay {
+        seated,
+        scripts: SCRIPTS,
+        guest,
+        posts: Posts::All,
     };
-    assert!(rt; is_sent, "guest {place} was sent other bytes");
+    let is_sent = match guest {
+        STRANGER => bytes == GREETING,
+        _ => was_sent(rt, alloc, replay, bytes),
+    };
+    expect_at(rt, is_sent, "other bytes were sent to guest", guest);
 }
 
-fn check_ends<R: Abort + Clock>(rt: &R, guests: &[MemoryGuest<'_, R>]) {
-    for (place, guest) in guests.iter().enumerate() {
-        let is_right = match place {
-            STRANGER => matches!(guest.end(), Some(VisitEnd::NoHandshake(_))),
-            _ => is_served(guest.end()),
-        };
-        assert!(rt; is_right, "guest {place} ended otherwise");
+fn is_right_end(guest: usize, end: Option<VisitEnd>) -> bool {
+    match guest {
+        STRANGER => matches!(end, Some(VisitEnd::NoHandshake(_))),
+        _ => is_served(end),
     }
 }
 
-fn check_sent<R: Abort + Clock>(
+fn check_guests<R: Abort + Clock>(
     rt: &R,
     alloc: Global,
     seated: &Seated,
     guests: &[MemoryGuest<'_, R>],
 ) {
     for place in 0..SCRIPTS.len() {
+        let has_ended = is_right_end(place, end_of(guests, place));
+        expect_at(rt, has_ended, "another end of guest", place);
         check_guest(rt, alloc, seated, place, written(guests, place));
     }
     let count = count_of(written(guests, 0), IDLE);
-    assert!(rt;
+    expect_at(
+        rt,
         count == 5,
-        "iopub heard {count} times that a request is done"
+        "of requests that are done iopub heard not of 5, but of",
+        count as usize,
     );
+}
+
+fn serve_guests<R: Threads + Wait + Clock + Abort + Sync>(
+    rt: &R,
+    alloc: Global,
+    signals: &Signals,
+) {
+    let mut guests = guests_of(rt, alloc, signals, SCRIPTS, PLAN);
+    let served = serve(rt, alloc, guests.as_mut_slice(), signals, PLAN);
+    let served = served.expect(rt, "memory to begin");
+    check_guests(rt, alloc, &served.hosted.seated, guests.as_slice());
+    let has_ended = served.hosted.end == PumpEnd::Ended;
+    assert!(rt; has_ended, "the worker ended otherwise");
+    drop(served);
+    drop(guests);
 }
 
 #[test]
 fn five_guests_are_served(rt: HostRuntime) {
-    let alloc = rt.alloc();
     let signals = Signals::new();
-    let mut guests = guests_of(&rt, alloc, &signals, &SCRIPTS, PLAN);
-    let served = serve(&rt, alloc, guests.as_mut_slice(), &signals, PLAN).expect(
-        &rt,
-        "memory to begin",
-    );
-    check_ends(&rt, guests.as_slice());
-    check_sent(&rt, alloc, &served.hosted.seated, guests.as_slice());
-    let has_ended = served.hosted.end == PumpEnd::Ended;
-    drop(served);
-    assert!(&rt; has_ended, "the worker ended otherwise");
+    serve_guests(&rt, rt.alloc(), &signals);
+    drop(signals);
 }

@@ -1,7 +1,7 @@
 //! What calls on a kernel answer, and the frames of its posts.
 
-use crate::again::again;
-use anyhow::{Result, bail};
+use crate::again::{again, fail};
+use anyhow::Result;
 use base_text::sequence::Frames;
 use kern_core::call::{Call, Reply};
 use kern_core::fault::KernelFault;
@@ -16,7 +16,7 @@ const KEY: &[u8] = b"key";
 const SESSION: &str = "S";
 
 fn tell_fetched(rt: &impl Print, posts: &Posts, next: u64, ended: bool) -> Result<()> {
-    print!(rt; "Fetched")?;
+    rt.print("Fetched")?;
     for post in posts.as_slice() {
         print!(rt; " {}", post.number)?;
     }
@@ -28,7 +28,7 @@ fn tell_reply(rt: &impl Print, reply: &Reply) -> Result<()> {
     match reply {
         Reply::Joined { connection, from } => println!(rt; "Joined {connection} {from}")?,
         Reply::Fetched { posts, next, ended } => tell_fetched(rt, posts, *next, *ended)?,
-        _ => println!(rt; "{}", reply_name(reply))?,
+        _ => rt.println(reply_name(reply))?,
     }
     Ok(())
 }
@@ -44,11 +44,12 @@ pub fn tell_answer(rt: &impl Print, answer: &Result<Reply, KernelFault>) -> Resu
     }
 }
 
-fn tell_frames(rt: &impl Print, frames: &Frames) -> Result<()> {
+fn tell_frames(rt: &impl Print, number: u64, frames: &Frames) -> Result<()> {
+    print!(rt; "post {number}:")?;
     for frame in frames.as_slice() {
         match str::from_utf8(frame.as_slice()) {
             Ok(text) => print!(rt; " {text}")?,
-            Err(_) => bail!("a frame is no text"),
+            Err(_) => return fail("a frame is no text"),
         }
     }
     println!(rt)?;
@@ -57,8 +58,7 @@ fn tell_frames(rt: &impl Print, frames: &Frames) -> Result<()> {
 
 fn tell_post(rt: &impl Print, alloc: Global, post: &Post) -> Result<()> {
     let frames = again!(rt, "render", render(alloc, post, KEY, SESSION));
-    print!(rt; "post {}:", post.number)?;
-    let told = tell_frames(rt, &frames);
+    let told = tell_frames(rt, post.number, &frames);
     drop(frames);
     told
 }

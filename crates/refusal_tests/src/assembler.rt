@@ -1,7 +1,7 @@
 //! Cells from their text to their image, and its listing.
 
-use crate::again::{again, tell_want};
-use anyhow::{Result, bail};
+use crate::again::{again, fail, tell_want};
+use anyhow::Result;
 use asm_build::built::Built;
 use asm_build::cell::build;
 use asm_build::symbols::{SymbolKind, Symbols};
@@ -11,6 +11,7 @@ use asm_text::statements::statements;
 use i80_dis::listing::listing;
 use lab_test_kit::cells::symbols;
 use std::alloc::{AllocError, Global};
+use std::mem;
 
 /// Each directive, and each operator.
 const DIRECTIVES: &str = "\
@@ -42,7 +43,7 @@ ENDIF\nENDIF\nENDIF\nENDIF\nENDIF\nENDIF\nENDIF\nENDIF\n\
 ENDIF\nENDIF\nENDIF\nENDIF\nENDIF\nENDIF\nENDIF\nENDIF\n";
 
 /// Cells, each over the symbols that those before it left.
-const CELLS: [&str; 10] = [
+const CELLS: &[&str] = &[
     "X: NOP",
     "JMP X\nNOP\nX: HLT",
     "JMP X\nNOP\nX: HLT",
@@ -134,38 +135,50 @@ fn bytes_of(alloc: Global, image: &[(u16, u8)]) -> Result<Vec<u8>, AllocError> {
     image.iter().map(|(_, byte)| *byte).collect(alloc)
 }
 
+// The listing of bytes from an address on.
+fn tell_listing(rt: &impl Print, alloc: Global, origin: u16, bytes: &[u8]) -> Result<()> {
+    if bytes.len() > 65_536 - origin as usize {
+        return fail("the image passes the end");
+    }
+    let text = again!(rt, "listing", listing(alloc, origin, bytes));
+    let told = rt.print(text.as_str());
+    drop(text);
+    Ok(told?)
+}
+
 // The listing of an image's bytes, from its first address on.
-fn tell_listing(rt: &impl Print, alloc: Global, image: &[(u16, u8)]) -> Result<()> {
+fn tell_bytes(rt: &impl Print, alloc: Global, image: &[(u16, u8)]) -> Result<()> {
     let origin = match image.first() {
         Some((address, _)) => *address,
         None => 0,
     };
     let bytes = again!(rt, "the image's bytes", bytes_of(alloc, image));
-    if bytes.len() > 65_536 - origin as usize {
-        bail!("the image passes the end");
-    }
-    let text = again!(rt, "listing", listing(alloc, origin, bytes.as_slice()));
-    print!(rt; "{}", text.as_str())?;
-    Ok(())
+    let told = tell_listing(rt, alloc, origin, bytes.as_slice());
+    drop(bytes);
+    told
 }
 
 fn tell_built(rt: &impl Print, alloc: Global, built: &Built) -> Result<()> {
     tell_image(rt, built)?;
     tell_rows(rt, built)?;
     tell_symbols(rt, &built.symbols)?;
-    tell_listing(rt, alloc, built.image.as_slice())
+    tell_bytes(rt, alloc, built.image.as_slice())
 }
 
 // Tells what a cell gives, and lets its symbols be the kept ones.
 fn tell_cell(rt: &impl Print, alloc: Global, cell: &str, kept: &mut Symbols) -> Result<()> {
     match assemble(rt, alloc, cell, kept)? {
-        Ok(built) => {
-            tell_built(rt, alloc, &built)?;
-            *kept = built.symbols;
+        Ok(mut built) => {
+            let told = tell_built(rt, alloc, &built);
+            mem::swap(kept, &mut built.symbols);
+            drop(built);
+            told
         }
-        Err(fault) => println!(rt; "{fault}")?,
+        Err(fault) => {
+            rt.println(fault)?;
+            Ok(())
+        }
     }
-    Ok(())
 }
 
 // The cells, and then one of 300 symbols, over which one more is read.
@@ -174,8 +187,9 @@ fn tell_cells(rt: &impl Print, alloc: Global, kept: &mut Symbols) -> Result<()> 
         tell_cell(rt, alloc, cell, kept)?;
     }
     let many = again!(rt, "a text", symbols(alloc, "S"));
-    tell_cell(rt, alloc, many.as_str(), kept)?;
+    let told = tell_cell(rt, alloc, many.as_str(), kept);
     drop(many);
+    told?;
     tell_cell(rt, alloc, "DW S0,S299\nS300: HLT", kept)
 }
 

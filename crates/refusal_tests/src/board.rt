@@ -2,7 +2,7 @@
 ghost use Rattle.std.specs.Prelude.{All, IfOk};
 ghost use Rattle.lab_core.specs.Events.{Fits};
 
-use crate::again::{again, tell_want};
+use crate::again::{TWICE, again, fail, tell_want};
 use crate::plays::PLAYS;
 use anyhow::{Result, bail};
 use lab_core::answer::{Answers, EventsFault};
@@ -14,7 +14,7 @@ use lab_test_kit::told::put_told;
 use std::alloc::{AllocError, Global};
 
 // What is compared of two boards.
-const VIEWS: [Ask; 9] = [
+const VIEWS: &[Ask] = &[
     Ask::Info,
     Ask::Frames(0, 0),
     Ask::Variables(1, 0, 0),
@@ -48,8 +48,9 @@ fn text_of(alloc: Global, answers: &Answers) -> Result<String, AllocError> {
 
 fn tell(rt: &impl Print, alloc: Global, answers: &Answers) -> Result<()> {
     let text = again!(rt, "the answers' text", text_of(alloc, answers));
-    print!(rt; "{}", text.as_str())?;
-    Ok(())
+    let told = rt.print(text.as_str());
+    drop(text);
+    Ok(told?)
 }
 
 fn put_origins(text: &mut String, lab: &Lab) -> Result<(), AllocError> {
@@ -72,7 +73,7 @@ fn put_view(text: &mut String, alloc: Global, lab: &mut Lab, ask: Ask) -> Result
 
 fn put_views(text: &mut String, alloc: Global, lab: &mut Lab) -> Result<(), AllocError> {
     for ask in VIEWS {
-        put_view(text, alloc, lab, ask)?;
+        put_view(text, alloc, lab, *ask)?;
     }
     put_origins(text, lab)
 }
@@ -93,16 +94,22 @@ fn replay(alloc: Global, done: &[Event]) -> Result<Lab>
         return Ok(lab);
     }
     drop(lab);
-    bail!("out of memory twice")
+    fail(TWICE)
 }
 
-fn expect_same(alloc: Global, lab: &mut Lab, other: &mut Lab) -> Result<()> {
+fn expect_views(alloc: Global, lab: &mut Lab, wanted: &str) -> Result<()> {
     let text = views_text(alloc, lab)?;
-    let wanted = views_text(alloc, other)?;
-    if text.as_str() != wanted.as_str() {
+    if text.as_str() != wanted {
         bail!("the board isn't as before: {text} and {wanted}");
     }
     Ok(())
+}
+
+fn expect_same(alloc: Global, lab: &mut Lab, other: &mut Lab) -> Result<()> {
+    let wanted = views_text(alloc, other)?;
+    let same = expect_views(alloc, lab, wanted.as_str());
+    drop(wanted);
+    same
 }
 
 // The board must be one on which these events and no others were done.
@@ -157,14 +164,14 @@ fn make(rt: &impl Print, alloc: Global, lab: &mut Lab, events: &[Event]) -> Resu
         return Ok(());
     };
     if count > events.len() {
-        bail!("there are more answers than events");
+        return fail("there are more answers than events");
     }
     let (done, rest) = events.split_at(count);
     expect_as_before(alloc, lab, done)?;
-    if run_events(rt, alloc, lab, rest)?.is_some() {
-        bail!("out of memory twice");
+    match run_events(rt, alloc, lab, rest)? {
+        Some(_) => fail(TWICE),
+        None => Ok(()),
     }
-    Ok(())
 }
 
 fn play_events(rt: &impl Print, alloc: Global, events: &[Event]) -> Result<()>
@@ -183,12 +190,21 @@ fn play(rt: &impl Print, alloc: Global, steps: &[Step]) -> Result<()> {
     played
 }
 
-fn dump(rt: &impl Print, alloc: Global, lab: &mut Lab, call: &str) -> Result<()> {
-    if let Some(event) = again!(rt, "events", event_of(alloc, Step::Dump("p", "HLT"))) {
-        let dumped = again!(rt, call, lab.apply(&event));
-        drop(dumped);
-    }
+fn apply(rt: &impl Print, lab: &mut Lab, event: &Event, call: &str) -> Result<()>
+    requires { Fits event.now }
+{
+    let answer = again!(rt, call, lab.apply(event));
+    drop(answer);
     Ok(())
+}
+
+fn dump(rt: &impl Print, alloc: Global, lab: &mut Lab, call: &str) -> Result<()> {
+    let Some(event) = again!(rt, "events", event_of(alloc, Step::Dump("p", "HLT"))) else {
+        return Ok(());
+    };
+    let applied = apply(rt, lab, &event, call);
+    drop(event);
+    applied
 }
 
 // A text that is kept already is dumped without memory: refusals/run looks that this is never told.

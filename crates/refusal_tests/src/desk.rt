@@ -1,23 +1,23 @@
 //! A desk over a kernel: six turns over three passes.
-ghost use Rattle.std.specs.Prelude.{◌≡◌, All, IfOk};
+ghost use Rattle.std.specs.Prelude.{◌≡◌, [], All, IfOk};
 
-use crate::again::{again, tell_want};
+use crate::again::{TWICE, fail, tell_want};
 use crate::answers::{name_of, tell_answer};
-use anyhow::{Result, bail};
+use crate::made::{new_call, new_kernel};
+use anyhow::{Error, Result};
 use jup_wire::channel::Channel::{Iopub, Shell};
 use kern_core::call::Reply;
 use kern_core::fault::KernelFault;
-use kern_core::kernel::Kernel;
-use kern_desk::desks::{MOST_ENTRIES, close_desk};
+use kern_desk::desks::close_desk;
 use kern_desk::seated::{Desk, Pass, Seated};
+use kern_test_kit::actions::Action;
 use kern_test_kit::actions::Action::{Fetch, Join, Send, Slice, Subscribe};
-use kern_test_kit::actions::{Action, call_of};
 use lab_turn::turnstile::{OpenFault, Turnstile};
 use std::alloc::Global;
 use std::sync::Wait;
 
 // A seat, and its call.
-const TURNS: [(usize, Action); 6] = [
+const TURNS: &[(usize, Action)] = &[
     (0, Join(Shell)),
     (1, Join(Iopub)),
     (2, Slice),
@@ -26,19 +26,27 @@ const TURNS: [(usize, Action); 6] = [
     (1, Fetch(2, 1)),
 ];
 
+fn open_again(rt: &impl Print, alloc: Global, value: Seated) -> Result<(Desk, Vec<Pass>)>
+    requires { value.entries ≡ [] }
+    ensures { IfOk result (λ opened. All (λ p. p.turnstile ≡ opened.0) opened.1.items) }
+{
+    tell_want(rt, "open")?;
+    match Turnstile::open(alloc, value, 3) {
+        Ok(opened) => Ok(opened),
+        Err(refused) => {
+            drop(refused);
+            Err(Error::msg(TWICE))
+        }
+    }
+}
+
 fn open(rt: &impl Print, alloc: Global) -> Result<(Desk, Vec<Pass>)>
     ensures { IfOk result (λ opened. All (λ p. p.turnstile ≡ opened.0) opened.1.items) }
 {
-    let kernel = again!(rt, "Kernel::new", Kernel::new(alloc, MOST_ENTRIES));
+    let kernel = new_kernel(rt, alloc)?;
     match Turnstile::open(alloc, Seated::new(alloc, kernel), 3) {
         Ok(opened) => Ok(opened),
-        Err(OpenFault::OutOfMemory(value)) => {
-            tell_want(rt, "open")?;
-            match Turnstile::open(alloc, value, 3) {
-                Ok(opened) => Ok(opened),
-                Err(_) => bail!("out of memory twice"),
-            }
-        }
+        Err(OpenFault::OutOfMemory(value)) => open_again(rt, alloc, value),
     }
 }
 
@@ -63,7 +71,7 @@ fn attempt<R: Wait + Print>(
     requires { pass.old.turnstile ≡ desk.now }
     ensures { pass.new.turnstile ≡ desk.now }
 {
-    let call = again!(rt, "a call's parts", call_of(alloc, action, unix_seconds));
+    let call = new_call(rt, alloc, action, unix_seconds)?;
     let answer = desk.turn(rt, pass, call)?;
     let told = tell_taken(rt, &answer);
     drop(answer);
@@ -87,10 +95,10 @@ fn make<R: Wait + Print>(
         return Ok(());
     }
     tell_want(rt, "turn")?;
-    if !attempt(rt, alloc, desk, pass, action, unix_seconds)? {
-        bail!("out of memory twice");
+    match attempt(rt, alloc, desk, pass, action, unix_seconds)? {
+        true => Ok(()),
+        false => fail(TWICE),
     }
-    Ok(())
 }
 
 fn make_at<R: Wait + Print>(
@@ -106,7 +114,7 @@ fn make_at<R: Wait + Print>(
 {
     let (seat, action) = turn;
     if seat >= passes.len() {
-        bail!("there is no such seat");
+        return fail("there is no such seat");
     }
     make(rt, alloc, desk, &mut passes[seat], action, unix_seconds)
 }
@@ -129,7 +137,7 @@ fn tell_entries(rt: &impl Print, seated: &Seated) -> Result<()> {
         }
     }
     if seated.entry(TURNS.len()).is_some() {
-        bail!("a refused turn left an entry");
+        return fail("a refused turn left an entry");
     }
     Ok(())
 }
@@ -144,7 +152,7 @@ fn close(rt: &impl Print, desk: Desk, passes: Vec<Pass>) -> Result<()>
             drop(seated);
             told
         }
-        None => bail!("a pass is missing"),
+        None => fail("a pass is missing"),
     }
 }
 

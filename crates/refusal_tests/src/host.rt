@@ -4,14 +4,14 @@
 ghost use Rattle.std.specs.Prelude.{◌≡◌, [], All, IfOk, IfErr};
 ghost use Rattle.kern_host.specs.Guests.{IsComing};
 
-use crate::again::{again, tell_want};
+use crate::again::{TWICE, again, fail, tell_want};
 use crate::answers::name_of;
 use crate::host_gates::{InGate, OutGate, WorkGate};
 use crate::host_replay::{MOST, SCRIPTS, Script, sent_to};
+use crate::made::new_kernel;
 use anyhow::{Result, bail};
 use base_streams::memory::{Sink, Source};
 use kern_core::kernel::Kernel;
-use kern_desk::desks::MOST_ENTRIES;
 use kern_desk::seated::Seated;
 use kern_host::end::{Ends, VisitEnd};
 use kern_host::guest::Guest;
@@ -51,7 +51,7 @@ fn guests_of(alloc: Global) -> Result<Vec<MemoryGuest>, AllocError>
 {
     let mut guests = Vec::new(alloc);
     for script in SCRIPTS {
-        guests.push(guest_of(alloc, script)?)?;
+        guests.push(guest_of(alloc, *script)?)?;
     }
     Ok(guests)
 }
@@ -85,19 +85,19 @@ fn serve<R: Threads + Wait + Clock + Print + Sync>(
 ) -> Result<Hosted>
     requires { All IsComing guests.old }
 {
-    let kernel = again!(rt, "Kernel::new", Kernel::new(alloc, MOST_ENTRIES));
+    let kernel = new_kernel(rt, alloc)?;
     match host_once(rt, alloc, kernel, guests) {
         Ok(hosted) => Ok(hosted),
         Err(kernel) => {
             tell_want(rt, "host")?;
             if guests.iter().any(|guest| is_begun(guest)) {
-                bail!("a guest was served without memory to begin");
+                return fail("a guest was served without memory to begin");
             }
             match host_once(rt, alloc, kernel, guests) {
                 Ok(hosted) => Ok(hosted),
                 Err(kernel) => {
                     drop(kernel);
-                    bail!("out of memory twice")
+                    fail(TWICE)
                 }
             }
         }
@@ -119,6 +119,17 @@ fn is_whole(guest: &MemoryGuest) -> bool {
         }))
 }
 
+fn check_sent(place: usize, guest: &MemoryGuest, wanted: &[u8]) -> Result<()> {
+    let sent = guest.outlet().as_slice();
+    if !wanted.starts_with(sent) {
+        bail!("guest {place} was sent other bytes");
+    }
+    if is_whole(guest) && sent.len() != wanted.len() {
+        bail!("guest {place} was sent a part");
+    }
+    Ok(())
+}
+
 // A guest was sent what the journal's calls give if they are made again, or a prefix of that if it ended for
 // want of memory.
 fn check(
@@ -129,14 +140,9 @@ fn check(
 ) -> Result<()> {
     let (place, guest) = guest;
     let wanted = again!(rt, "the replay", sent_to(alloc, seated, place));
-    let sent = guest.outlet().as_slice();
-    if !wanted.as_slice().starts_with(sent) {
-        bail!("guest {place} was sent other bytes");
-    }
-    if is_whole(guest) && sent.len() != wanted.len() {
-        bail!("guest {place} was sent a part");
-    }
-    Ok(())
+    let is_so = check_sent(place, guest, wanted.as_slice());
+    drop(wanted);
+    is_so
 }
 
 // Tells the calls of a seat.
@@ -188,9 +194,15 @@ fn tell(rt: &impl Print, alloc: Global, hosted: &Hosted, guests: &[MemoryGuest])
 // Serves new guests; false if a thread ended for want of memory.
 fn attempt<R: Threads + Wait + Clock + Print + Sync>(rt: &R, alloc: Global) -> Result<bool> {
     let mut guests = again!(rt, "guests", guests_of(alloc));
-    let hosted = serve(rt, alloc, guests.as_mut_slice())?;
-    let told = tell(rt, alloc, &hosted, guests.as_slice());
-    drop(hosted);
+    let told = match serve(rt, alloc, guests.as_mut_slice()) {
+        Ok(hosted) => {
+            let told = tell(rt, alloc, &hosted, guests.as_slice());
+            drop(hosted);
+            told
+        }
+        Err(error) => Err(error),
+    };
+    drop(guests);
     told
 }
 
@@ -200,8 +212,8 @@ pub fn run<R: Threads + Wait + Clock + Print + Sync>(rt: &R, alloc: Global) -> R
         return Ok(());
     }
     tell_want(rt, "a guest or the worker")?;
-    if !attempt(rt, alloc)? {
-        bail!("out of memory twice");
+    match attempt(rt, alloc)? {
+        true => Ok(()),
+        false => fail(TWICE),
     }
-    Ok(())
 }

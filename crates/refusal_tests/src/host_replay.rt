@@ -1,5 +1,6 @@
 //! Making the calls of a journal again on a new kernel, one by one.
 
+use crate::again::fail;
 use crate::host_bytes::{ASKS, ATTACHES, DEALER, GREETING, HEARS, PUB, ROUTER, SUB};
 use anyhow::{Result, bail};
 use jup_wire::channel::Channel;
@@ -23,7 +24,7 @@ pub struct Script {
 }
 
 /// The guests.
-pub const SCRIPTS: [Script; 3] = [
+pub const SCRIPTS: &[Script] = &[
     Script {
         channel: Channel::Iopub,
         hello: SUB,
@@ -68,22 +69,33 @@ fn action_of(call: &Call, guest: usize, asked: &mut [usize; 3]) -> Option<Action
     }
 }
 
-// Adds the messages of the posts in an answer.
-fn add_posts(alloc: Global, answer: &Result<Reply, KernelFault>, sent: &mut Vec<u8>) -> Result<()> {
+// Adds the messages of the posts in an answer, if they are looked for.
+fn add_posts(
+    alloc: Global,
+    answer: &Result<Reply, KernelFault>,
+    is_sought: bool,
+    sent: &mut Vec<u8>,
+) -> Result<()> {
     match answer {
-        Ok(Reply::Fetched { posts, .. }) => {
+        Ok(Reply::Fetched { posts, .. }) if is_sought => {
             let bytes = stream_of(alloc, posts.as_slice(), b"", "S")?;
             sent.extend_from_slice(bytes.as_slice())?;
             Ok(())
         }
-        Err(KernelFault::OutOfMemory) => bail!("out of memory"),
+        Err(KernelFault::OutOfMemory) => fail("out of memory"),
         _ => Ok(()),
     }
 }
 
-fn make(alloc: Global, kernel: &mut Kernel, action: Action, sent: &mut Vec<u8>) -> Result<()> {
+fn make(
+    alloc: Global,
+    kernel: &mut Kernel,
+    action: Action,
+    is_sought: bool,
+    sent: &mut Vec<u8>,
+) -> Result<()> {
     let answer = kernel.act(call_of(alloc, action, 0)?);
-    let added = add_posts(alloc, &answer, sent);
+    let added = add_posts(alloc, &answer, is_sought, sent);
     drop(answer);
     added
 }
@@ -95,7 +107,6 @@ fn make_all(
     guest: usize,
     sent: &mut Vec<u8>,
 ) -> Result<()> {
-    let mut others = Vec::new(alloc);
     let mut asked = [0usize; 3];
     for place in 0..MOST {
         let Some((seat, call)) = seated.entry(place) else {
@@ -108,10 +119,9 @@ fn make_all(
         if !matches!(action, Action::Send(..)) && !is_call(call, action, 0) {
             bail!("another call at {place}");
         }
-        let to = if by == guest { &mut *sent } else { &mut others };
-        make(alloc, kernel, action, to)?;
+        make(alloc, kernel, action, by == guest, sent)?;
     }
-    bail!("there are too many entries")
+    fail("there are too many entries")
 }
 
 fn handshake(alloc: Global, channel: Channel) -> Result<Vec<u8>> {
@@ -128,7 +138,7 @@ fn handshake(alloc: Global, channel: Channel) -> Result<Vec<u8>> {
 /// The handshake with a guest, and what its Fetches in the journal give on a new kernel.
 pub fn sent_to(alloc: Global, seated: &Seated, guest: usize) -> Result<Vec<u8>> {
     let Some(script) = SCRIPTS.get(guest) else {
-        bail!("there is no such guest");
+        return fail("there is no such guest");
     };
     let mut sent = handshake(alloc, script.channel)?;
     let mut kernel = Kernel::new(alloc, MOST_ENTRIES)?;

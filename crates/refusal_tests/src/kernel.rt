@@ -1,14 +1,14 @@
 //! Kernels from the first Join to the shutdown, with the frames of each post that is fetched.
 
-use crate::again::{again, tell_want};
+use crate::again::{TWICE, fail, tell_want};
 use crate::answers::{name_of, tell_answer, tell_posts};
+use crate::made::{new_call, new_kernel};
 use crate::scripts::action;
 use anyhow::{Result, bail};
 use kern_core::call::Reply;
 use kern_core::fault::KernelFault;
 use kern_core::kernel::Kernel;
-use kern_desk::desks::MOST_ENTRIES;
-use kern_test_kit::actions::{Action, call_of};
+use kern_test_kit::actions::Action;
 use std::alloc::Global;
 
 // Whether a kernel has exactly so many entries.
@@ -36,7 +36,7 @@ fn attempt(
     action: Action,
     place: usize,
 ) -> Result<bool> {
-    let call = again!(rt, "a call's parts", call_of(alloc, action, place as u64));
+    let call = new_call(rt, alloc, action, place as u64)?;
     let answer = kernel.act(call);
     let told = tell_whole(rt, alloc, &answer);
     drop(answer);
@@ -56,12 +56,12 @@ fn make(
     }
     tell_want(rt, "act")?;
     if !has_entries(kernel, place) {
-        bail!("a refused call left an entry");
+        return fail("a refused call left an entry");
     }
-    if !attempt(rt, alloc, kernel, action, place)? {
-        bail!("out of memory twice");
+    match attempt(rt, alloc, kernel, action, place)? {
+        true => Ok(()),
+        false => fail(TWICE),
     }
-    Ok(())
 }
 
 fn tell_entries(rt: &impl Print, kernel: &Kernel, count: usize) -> Result<()> {
@@ -72,22 +72,9 @@ fn tell_entries(rt: &impl Print, kernel: &Kernel, count: usize) -> Result<()> {
         }
     }
     if !has_entries(kernel, count) {
-        bail!("the entries aren't the calls");
+        return fail("the entries aren't the calls");
     }
     Ok(())
-}
-
-fn make_row(
-    rt: &impl Print,
-    alloc: Global,
-    kernel: &mut Kernel,
-    row: &'static str,
-    place: usize,
-) -> Result<()> {
-    match action(row) {
-        Some(action) => make(rt, alloc, kernel, action, place),
-        None => bail!("{row}: there is no such call"),
-    }
 }
 
 fn make_all(
@@ -97,14 +84,17 @@ fn make_all(
     script: &'static str,
 ) -> Result<()> {
     for (place, row) in script.lines().enumerate() {
-        make_row(rt, alloc, kernel, row, place)?;
+        let Some(action) = action(row) else {
+            bail!("{row}: there is no such call");
+        };
+        make(rt, alloc, kernel, action, place)?;
     }
     tell_entries(rt, kernel, script.lines().count())
 }
 
 /// The run of these calls.
 pub fn run(rt: &impl Print, alloc: Global, script: &'static str) -> Result<()> {
-    let mut kernel = again!(rt, "Kernel::new", Kernel::new(alloc, MOST_ENTRIES));
+    let mut kernel = new_kernel(rt, alloc)?;
     let made = make_all(rt, alloc, &mut kernel, script);
     drop(kernel);
     made

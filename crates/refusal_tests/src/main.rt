@@ -15,11 +15,12 @@ mod host_bytes;
 mod host_gates;
 mod host_replay;
 mod kernel;
+mod made;
 mod plays;
 mod scripts;
 
-use crate::again::tell_want;
-use anyhow::{Result, bail};
+use crate::again::{fail, tell_want};
+use anyhow::Result;
 use std::alloc::Global;
 use std::env;
 use std::rt::{Clock, Env};
@@ -34,7 +35,7 @@ fn run<R: Threads + Wait + Clock + Print + Sync>(rt: &R, alloc: Global, name: &s
         "requests" => kernel::run(rt, alloc, scripts::REQUESTS),
         "desk" => desk::run(rt, alloc),
         "host" => host::run(rt, alloc),
-        _ => bail!("usage: refusal_tests NAME, as its text lists them"),
+        _ => fail("usage: refusal_tests NAME, as its text lists them"),
     }
 }
 

@@ -163,7 +163,7 @@ const REQUESTS: &[Step] = &[
 ];
 
 /// The lists.
-pub const PLAYS: [&[Step]; 6] = [
+pub const PLAYS: &[&[Step]] = &[
     STEP_OUT,
     STEP_OVER,
     STEP_OVER_RECURSION,
