@@ -7,16 +7,13 @@ import time
 import plain_board
 import plain_far
 import plain_programs
-from editor import printed
-from plain_debugger import PlainDebugger, Point
+from editor import FIRST_DATA_ID, FIRST_INSTRUCTION_ID, FIRST_LABEL_ID, FIRST_LINE_ID, printed
+from plain_debugger import REASONS, PlainDebugger, Point
 
 # The memory that is compared: program, data and stack.
 COMPARED = 0x400
 
 NOWHERE = "the run begins here"
-
-# The numbers of the first data breakpoint and of the first one at an instruction; the next ones follow.
-FIRST_DATA_ID, FIRST_INSTRUCTION_ID = 256 * 1025 + 1, 256 * 1026 + 1
 
 
 class Walk:
@@ -26,6 +23,11 @@ class Walk:
         self.editor, self.path, self.chance = editor, path, chance
         self.program = plain_programs.made(chance)
         self.typed, self.switches = chance.choice(("", "ab\n")), chance.randrange(256)
+        # Two labels of loops and routines, at whose addresses breakpoints of several kinds meet.
+        self.meeting = chance.sample(sorted(at for at, name in self.program.labels.items() if name[0] in "LR"), 2)
+        # Whether so many breakpoints are on the line of a loop's counter that the board has no room for those at labels.
+        self.is_crowded = chance.random() < 0.3
+        self.counter = next(self.program.lines[at] for at, name in self.program.labels.items() if name[0] == "N")
         # What the debugger has told since the last comparison, and what it must have told.
         self.events, self.printed, self.told, self.plain, self.is_over = [], b"", [], None, False
 
@@ -40,12 +42,15 @@ class Walk:
         before = self.plain
         self.plain = PlainDebugger(self.program, [("type", self.typed.encode()), ("switch", self.switches)])
         if before:
-            self.plain.take_breakpoints(before)
+            self.plain.set_all_breakpoints(before.points)
         self.stops("entry")
         self.compare()
 
     def go(self, actions):
         self.begin()
+        if self.is_crowded:
+            self.set_breakpoints()
+            self.set_label_breakpoints()
         for _ in range(actions):
             self.way()()
             if self.is_over:
@@ -96,11 +101,12 @@ class Walk:
         response = self.ask(command, **arguments)
         equal((response["success"], response.get("message")), (False, told))
 
-    def stops(self, reason):
-        """Receives the events up to a stop for this reason."""
+    def stops(self, reason, met=()):
+        """Receives the events up to a stop for this reason, at these breakpoints."""
         while not self.events or self.events[-1][0] != "stopped":
             self.events.append(self.editor.event())
-        equal(self.events[-1][1]["reason"], reason)
+        body = self.events[-1][1]
+        equal((body["reason"], body.get("hitBreakpointIds", [])), (reason, [point.number for point in met]))
 
     # ---- what is compared
 
@@ -167,7 +173,7 @@ class Walk:
         if reason == "waiting":
             self.wait_for_board()
             return True
-        self.stops({"halted": "step"}.get(reason, reason))
+        self.stops({"halted": "step"}.get(reason, reason), plain.met)
         equal(self.events[-1][1].get("description"), {"halted": "halted", "data breakpoint": plain.change}.get(reason))
         if reason == "exception":
             equal(self.events[-2][1]["output"], self.events[-1][1]["text"] + "\n")
@@ -208,7 +214,8 @@ class Walk:
         equal(self.do(command, **arguments).get("result"), "ok" if command == "evaluate" else None)
         before = self.plain.board.count
         if kind == "reverse":
-            self.stops(self.plain.reverse())
+            reason = self.plain.reverse()
+            self.stops(reason, self.plain.met)
         elif kind in ("back", "steps", "start"):
             self.plain.go_to({"back": before - 1, "steps": before - (steps or 1), "start": 0}[kind])
             self.stops("entry" if kind == "start" else "step")
@@ -268,7 +275,7 @@ class Walk:
             self.changes(len(data), asked, "write", address, data)
 
     def go_to_line(self):
-        address = self.chance.choice(sorted(self.program.firsts))
+        address = self.chance.choice(self.chance.choice((sorted(self.program.firsts), self.meeting)))
         line = self.program.lines[address]
         [target] = self.do("gotoTargets", source={"path": self.path}, line=line)["targets"]
         equal(target["line"], line)
@@ -277,65 +284,83 @@ class Walk:
         self.stops("goto")
 
     def set_breakpoints(self):
-        """Some anywhere, also on lines without code, and some in routines, which are before the start."""
+        """Some anywhere, also on lines without code, some in routines, which are before the start, and some where others are; also
+        twice."""
         everywhere = range(self.program.text.count("\n") + 2)
         inside = [self.program.lines[at] for at in sorted(self.program.firsts) if at < self.program.start]
-        chosen = sorted({line for some in (everywhere, inside) for line in self.chance.sample(some, self.chance.randint(0, 3))})
+        there = [self.program.lines[at] for at in self.meeting]
+        chosen = [line for some in (everywhere, inside, there) for line in self.some_of(some, 3)]
+        chosen += self.some_of(chosen, 2)
+        self.chance.shuffle(chosen)
+        crowd = 0
+        if self.is_crowded:
+            chosen = chosen[:self.chance.randrange(3)]
+            crowd = 256 - len(chosen)
+        chosen = [self.counter] * crowd + chosen
         landings = [self.plain.landing(line) for line in chosen]
-        options = [self.options(landing, may_tell=True) for landing in landings]
-        shown = [(line, False) if landing is None else (landing, True) for line, landing in zip(chosen, landings)]
+        options = [({}, Point(FIRST_LINE_ID + place, self.counter)) for place in range(crowd)]
+        options += [self.options(FIRST_LINE_ID + place, landings[place], may_tell=True) for place in range(crowd, len(chosen))]
+        shown = [(point.number, line, False) if landing is None else (point.number, landing, True)
+                 for line, landing, (_, point) in zip(chosen, landings, options)]
         given = [{"line": line} | asked for line, (asked, _) in zip(chosen, options)]
         answer = self.do("setBreakpoints", source={"path": self.path}, breakpoints=given)["breakpoints"]
-        equal([(it["line"], it["verified"]) for it in answer], shown)
+        equal([(it["id"], it["line"], it["verified"]) for it in answer], shown)
         self.plain.set_breakpoints("line", [point for _, point in options if point.where is not None])
 
     def set_label_breakpoints(self):
-        """Up to three, in either case."""
-        chosen = self.chance.sample(sorted(self.program.labels.items()), self.chance.randint(0, 3))
-        lines = [self.program.lines[address] for address, _ in chosen]
-        options = [self.options(line, may_tell=True) for line in lines]
-        given = [{"name": self.chance.choice((label, label.lower()))} | asked for (_, label), (asked, _) in zip(chosen, options)]
+        """Some of all and some where others are, in either case, also twice."""
+        chosen = self.some_of(sorted(self.program.labels), 2) + self.some_of(self.meeting, 3)
+        self.chance.shuffle(chosen)
+        lines, names = [self.program.lines[at] for at in chosen], [self.program.labels[at] for at in chosen]
+        options = [self.options(FIRST_LABEL_ID + place, line, may_tell=True) for place, line in enumerate(lines)]
+        given = [{"name": self.chance.choice((name, name.lower()))} | asked for name, (asked, _) in zip(names, options)]
         answer = self.do("setFunctionBreakpoints", breakpoints=given)["breakpoints"]
-        equal(answer, [{"id": number, "line": line, "verified": True} for number, line in enumerate(lines, 1)])
+        equal(answer, [{"id": point.number, "line": line, "verified": True} for line, (_, point) in zip(lines, options)])
         self.plain.set_breakpoints("label", [point for _, point in options])
 
     def set_data_breakpoints(self):
         """Up to three, mostly at bytes."""
         watched = [self.watched() for _ in range(self.chance.randint(0, 3))]
-        options = [self.options(places) for _, places in watched]
+        options = [self.options(FIRST_DATA_ID + place, places) for place, (_, places) in enumerate(watched)]
         given = [{"dataId": data_id} | asked for (data_id, _), (asked, _) in zip(watched, options)]
         answer = self.do("setDataBreakpoints", breakpoints=given)["breakpoints"]
-        equal(answer, [{"id": FIRST_DATA_ID + number, "verified": True} for number in range(len(given))])
+        equal(answer, [{"id": point.number, "verified": True} for _, point in options])
         self.plain.set_breakpoints("data", [point for _, point in options])
 
     def set_instruction_breakpoints(self):
-        """Up to four, mostly where instructions begin, and some amid them or elsewhere."""
+        """Up to four, mostly where instructions begin or others are, and some amid them or elsewhere."""
         begin, any_of = sorted(self.program.firsts), sorted(self.program.lines)
-        places = [self.chance.choice((begin, begin, begin, any_of, range(65_536))) for _ in range(self.chance.randint(0, 4))]
-        options = [self.options(self.chance.choice(some)) for some in places]
+        kinds = (begin, begin, self.meeting, self.meeting, self.meeting, any_of, range(65_536))
+        places = [self.chance.choice(self.chance.choice(kinds)) for _ in range(self.chance.randint(0, 4))]
+        options = [self.options(FIRST_INSTRUCTION_ID + place, address) for place, address in enumerate(places)]
         given = []
         for asked, point in options:
             base = self.chance.choice((point.where, self.chance.randrange(65_536)))
             given.append({"instructionReference": f"0x{base:04x}", "offset": point.where - base} | asked)
         answer = self.do("setInstructionBreakpoints", breakpoints=given)["breakpoints"]
-        equal(answer, [{"id": FIRST_INSTRUCTION_ID + number, "instructionReference": f"0x{point.where:04x}", "verified": True}
-                       for number, (_, point) in enumerate(options)])
+        equal(answer, [{"id": point.number, "instructionReference": f"0x{point.where:04x}", "verified": True}
+                       for _, point in options])
         self.plain.set_breakpoints("instruction", [point for _, point in options])
 
-    def options(self, where, may_tell=False):
+    def some_of(self, places, most):
+        return self.chance.sample(places, min(len(places), self.chance.randint(0, most)))
+
+    def options(self, number, where, may_tell=False):
         """What is asked of a breakpoint beside its place, and the model's breakpoint there."""
-        (condition, holds), (hits, fits), (message, text) = self.condition(), self.hit_condition(), (None, None)
-        if may_tell:
-            message, text = self.message()
+        (condition, holds), (hits, fits), (message, text) = [(None, None)] * 3
+        if self.chance.random() < 0.7:
+            (condition, holds), (hits, fits) = self.condition(), self.hit_condition()
+            message, text = self.message() if may_tell else (None, None)
         asked = {"condition": condition, "hitCondition": hits, "logMessage": message}
-        return {name: given for name, given in asked.items() if given}, Point(where, holds, fits, text)
+        return {name: given for name, given in asked.items() if given}, Point(number, where, holds, fits, text)
 
     def watched(self):
         """What a data breakpoint watches: its dataId, and its places. It is a register, a pair, or bytes among the data, the
         counters of loops and the stack."""
         kind, byte = self.chance.randrange(8), self.chance.randrange(8)
         if kind < 2:
-            name = self.chance.choice(("A", "B", "C", "D", "E", "H", "L", "SP", "SP"))
+            # A call changes SP.
+            name = self.chance.choice(("A", "B", "C", "D", "E", "H", "L", "SP", "SP", "SP", "SP"))
             return name, (name,)
         if kind == 2:
             name = self.chance.choice(("BC", "DE", "HL"))
@@ -362,7 +387,7 @@ class Walk:
         number = self.chance.choice((1, 1, 2, 2, 3, 5))
         blank = self.chance.choice(("", " "))
         return self.chance.choice((
-            (None, None), (None, None), (None, None),
+            (None, None), (None, None), (None, None), (None, None),
             (f"{number}", lambda hits: hits == number), (f"=={blank}{number}", lambda hits: hits == number),
             (f">{blank}{number}", lambda hits: hits > number), (f">={blank}{number}", lambda hits: hits >= number),
             (f"<{blank}{number + 1}", lambda hits: hits < number + 1), (f"<={blank}{number}", lambda hits: hits <= number),
@@ -373,7 +398,7 @@ class Walk:
         address = plain_programs.DATA + self.chance.randrange(8)
         name, place = self.chance.choice([("B", 0), ("C", 1), ("D", 2), ("E", 3), ("A", 7)])
         return self.chance.choice((
-            (None, None), (None, None), (None, None),
+            (None, None), (None, None), (None, None), (None, None), (None, None),
             (f"{name} is {{{name}}}", lambda board: f"{name} is {board.r[place]}"),
             (f"{{[0{address:X}H]:x}} }}{{{{ {{SP:x}}", lambda board: f"{word(board.memory[address])} }}{{ {word(board.sp)}"),
             ("{HL / (A AND 1)}{Z}", lambda board: f"{board.hl() if board.r[7] & 1 else 'Divisor'}{board.z}"),
@@ -388,15 +413,24 @@ class Walk:
         self.refuses("a number of steps must follow, or the word start", "evaluate", expression="back 0", context="repl")
 
 
+# Where a far walk's program can have a breakpoint, and the request that sets each kind.
+AT_CARRY = {
+    "line": ("setBreakpoints", {"line": plain_far.CARRY_LINE}), "label": ("setFunctionBreakpoints", {"name": "CARRY"}),
+    "data": ("setDataBreakpoints", {"dataId": "SP"}),
+    "instruction": ("setInstructionBreakpoints", {"instructionReference": f"0x{plain_far.STARTS[plain_far.CARRIES]:04x}"})}
+FIRST_IDS = {"line": FIRST_LINE_ID, "label": FIRST_LABEL_ID, "data": FIRST_DATA_ID, "instruction": FIRST_INSTRUCTION_ID}
+
+
 class FarWalk:
     """A random session in which a run goes forward and back by millions of steps."""
 
     def __init__(self, editor, path, chance):
         self.editor, self.path, self.chance = editor, path, chance
         self.inputs, self.count, self.told = [], 0, 0
-        # What a breakpoint at the carry does: it stops the run before it, on its line or at its instruction, or, since the carry
-        # changes SP, behind it; it tells a message, or there is none. It does so at each of so many hits, if it has a hit condition.
-        self.at_carry, self.every, self.hits = None, None, 0
+        # What a breakpoint at the carry does: it stops the run before it, on its line, at its label or at its instruction, or,
+        # since the carry changes SP, behind it; it tells a message, or there is none. It does so at each of so many hits, if it has
+        # a hit condition.
+        self.at_carry, self.kind, self.every, self.hits = None, None, None, 0
 
     def go(self, actions):
         with open(self.path, "w", encoding="ascii") as file:
@@ -404,7 +438,8 @@ class FarWalk:
         equal(self.editor.run_to(self.path, stopOnEntry=True), "entry")
         self.forward()
         for _ in range(actions):
-            self.chance.choice((self.forward, self.forward, self.back, self.back, self.back, self.change, self.set_breakpoint))()
+            self.chance.choice((self.forward, self.forward, self.forward, self.back, self.back, self.back, self.back, self.change,
+                                self.set_breakpoint, self.set_other_list))()
             self.compare()
 
     def compare(self):
@@ -417,20 +452,23 @@ class FarWalk:
         """To the breakpoint if it stops, or else by some milliseconds."""
         self.editor.do("continue", threadId=1)
         if self.at_carry == "stops":
-            equal(self.editor.stop(), "breakpoint")
             self.count = self.next_hit(plain_far.carry_after)
+            self.is_met()
         elif self.at_carry == "changes":
             self.count = self.next_hit(plain_far.change_after)
             sp = plain_far.board_at(self.inputs, self.count).sp
-            told = f"SP: {sp:04X}H, was {sp - 1:04X}H, by {plain_far.STARTS[plain_far.CARRIES]:04X}"
-            body = self.editor.events_to("stopped")[-1][1]
-            equal((body["reason"], body["description"]), ("data breakpoint", told))
+            self.is_met(description=f"SP: {sp:04X}H, was {sp - 1:04X}H, by {plain_far.STARTS[plain_far.CARRIES]:04X}")
         else:
             time.sleep(self.chance.random() * 0.03)
             events = self.editor.ask_amid("pause", threadId=1) + self.editor.events_to("stopped")
             before, self.count = self.count, self.count_now()
             equal(printed(events, "console"), "".join(f"{number}\n" for number in self.carries(before)))
         self.told = max(self.told, self.count)
+
+    def is_met(self, **more):
+        """The run must stop at the breakpoint, and tell this."""
+        told = {"reason": REASONS[self.kind], "hitBreakpointIds": [FIRST_IDS[self.kind]]} | more
+        equal(self.editor.events_to("stopped")[-1][1], {"allThreadsStopped": True, "threadId": 1} | told)
 
     def next_hit(self, place_after):
         """The count of steps at the next hit that is asked for, if they are at the places that this gives."""
@@ -467,8 +505,20 @@ class FarWalk:
             equal(self.editor.refusal(command, **arguments), NOWHERE)
             return
         self.editor.do(command, **arguments)
-        self.count, self.hits = max(count, 0), 0
-        equal(self.editor.stop(), "entry" if reason == "breakpoint" and self.count == 0 else reason)
+        count = max(count, 0)
+        self.count, self.hits = count, self.hits_back_at(count)
+        if reason == "breakpoint" and count > 0:
+            self.is_met()
+        else:
+            equal(self.editor.stop(), "entry" if reason == "breakpoint" else reason)
+
+    def hits_back_at(self, count):
+        """The hits of a run that goes back to so many steps: without those behind these."""
+        place_after = plain_far.change_after if self.at_carry == "changes" else plain_far.carry_after
+        hits, count = self.hits, place_after(count)
+        while count <= self.count:
+            hits, count = hits - 1, place_after(count)
+        return max(hits, 0)
 
     def carry_before(self):
         return plain_far.carry_before(self.count) if self.at_carry == "stops" and self.every is None else 0
@@ -487,15 +537,23 @@ class FarWalk:
         self.told = self.count
 
     def set_breakpoint(self):
-        self.at_carry, kind = self.chance.choice((
-            ("stops", "line"), ("stops", "instruction"), ("changes", "data"), ("tells", "line"), (None, None)))
+        self.at_carry, self.kind = self.chance.choice((
+            ("stops", "line"), ("stops", "label"), ("stops", "instruction"), ("changes", "data"), ("tells", "line"),
+            ("tells", "label"), (None, None)))
         self.every, self.hits = self.chance.choice((None, None, 1, 2, 3)), 0
+        for kind in AT_CARRY:
+            self.set_list(kind)
+
+    def set_other_list(self):
+        """Sets a list that is empty. Hits are counted on."""
+        self.set_list(self.chance.choice([kind for kind in AT_CARRY if kind != self.kind]))
+
+    def set_list(self, kind):
+        command, place = AT_CARRY[kind]
+        tells = {"logMessage": "{SP}"} if self.at_carry == "tells" else {}
         hits = {"hitCondition": f"% {self.every}"} if self.every else {}
-        point = {"line": plain_far.CARRY_LINE} | ({"logMessage": "{SP}"} if self.at_carry == "tells" else {}) | hits
-        self.editor.do("setBreakpoints", source={"path": self.path}, breakpoints=[point] if kind == "line" else [])
-        self.editor.do("setDataBreakpoints", breakpoints=[{"dataId": "SP"} | hits] if kind == "data" else [])
-        at = {"instructionReference": f"0x{plain_far.STARTS[plain_far.CARRIES]:04x}"} | hits
-        self.editor.do("setInstructionBreakpoints", breakpoints=[at] if kind == "instruction" else [])
+        source = {"source": {"path": self.path}} if kind == "line" else {}
+        self.editor.do(command, **source, breakpoints=[place | tells | hits] if kind == self.kind else [])
 
 
 def equal(found, wanted):

@@ -4,7 +4,7 @@ import random
 import time
 import unittest
 
-from editor import Session, printed
+from editor import AT_LABEL, Session, printed
 from editor_walks import NOWHERE
 
 SEED = 1
@@ -284,10 +284,10 @@ class Breakpoints(Going):
         editor = self.editor()
         editor.run_to(self.count(), stopAtEnd=True)
         editor.do("setFunctionBreakpoints", breakpoints=[{"name": "show"}])
-        self.assertEqual(self.reverse(editor), ("breakpoint", "SHOW", SHOW))
+        self.assertEqual(self.reverse(editor), (AT_LABEL, "SHOW", SHOW))
         # Going to the start doesn't stop there.
         self.assertEqual(self.prompt(editor, "back start"), ("entry", "main", 3))
-        self.assertEqual(self.on(editor)[1], "breakpoint")
+        self.assertEqual(self.on(editor)[1], AT_LABEL)
 
 
 class Again(Going):

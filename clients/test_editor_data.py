@@ -2,16 +2,13 @@
 import time
 import unittest
 
-from editor import Session, printed
+from editor import FIRST_DATA_ID, FIRST_LINE_ID, Session, printed
 from test_editor_points import COUNTS, MILLION, told
 from test_editor_sessions import CONVERSATION
 
 # Lines of examples/count.asm: the one that is jumped to, CALL SHOW, the two after it, the routine's first one, and the one behind
 # ADI, which changes A.
 NEXT, CALL, AFTER_CALL, JUMP, SHOW, OUT = 4, 5, 6, 7, 10, 12
-
-# The number of the first breakpoint on data; the next ones follow.
-FIRST_ID = 256 * 1025 + 1
 
 # Counts down to 1 in a byte, which is at 000AH; the instruction that changes it is at 0002H.
 COUNTER = """\
@@ -48,8 +45,8 @@ WATCHES = (
      '"request_seq":5,"seq":6,"success":true,"type":"response"}'),
     ('{"seq":6,"type":"request","command":"configurationDone"}',
      '{"body":{},"command":"configurationDone","request_seq":6,"seq":7,"success":true,"type":"response"}',
-     '{"body":{"allThreadsStopped":true,"description":"000A: 02H, was 00H, by 0002","reason":"data breakpoint","threadId":1},'
-     '"event":"stopped","seq":8,"type":"event"}'),
+     '{"body":{"allThreadsStopped":true,"description":"000A: 02H, was 00H, by 0002","hitBreakpointIds":[262401],'
+     '"reason":"data breakpoint","threadId":1},"event":"stopped","seq":8,"type":"event"}'),
     ('{"seq":7,"type":"request","command":"stackTrace","arguments":{"threadId":1}}',
      '{"body":{"stackFrames":[{"column":1,"id":1,"instructionPointerReference":"0x0005","line":3,"name":"main",'
      '"source":{"path":"PATH"}}],"totalFrames":1},"command":"stackTrace","request_seq":7,"seq":9,"success":true,'
@@ -57,8 +54,8 @@ WATCHES = (
     ('{"seq":8,"type":"request","command":"continue","arguments":{"threadId":1}}',
      '{"body":{"allThreadsContinued":true},"command":"continue","request_seq":8,"seq":10,"success":true,"type":"response"}',
      '{"body":{"allThreadsContinued":true,"threadId":1},"event":"continued","seq":11,"type":"event"}',
-     '{"body":{"allThreadsStopped":true,"description":"000A: 01H, was 02H, by 0002","reason":"data breakpoint","threadId":1},'
-     '"event":"stopped","seq":12,"type":"event"}'),
+     '{"body":{"allThreadsStopped":true,"description":"000A: 01H, was 02H, by 0002","hitBreakpointIds":[262401],'
+     '"reason":"data breakpoint","threadId":1},"event":"stopped","seq":12,"type":"event"}'),
     ('{"seq":9,"type":"request","command":"continue","arguments":{"threadId":1}}',
      '{"body":{"allThreadsContinued":true},"command":"continue","request_seq":9,"seq":13,"success":true,"type":"response"}',
      '{"body":{"allThreadsContinued":true,"threadId":1},"event":"continued","seq":14,"type":"event"}',
@@ -197,7 +194,7 @@ class Data(Session):
         """Sets breakpoints, each by its dataId or with more, which must all be verified."""
         points = [{"dataId": it} if isinstance(it, str) else it for it in given]
         shown = editor.do("setDataBreakpoints", breakpoints=points)["breakpoints"]
-        self.assertEqual(shown, [{"id": FIRST_ID + number, "verified": True} for number in range(len(points))])
+        self.assertEqual(shown, [{"id": FIRST_DATA_ID + number, "verified": True} for number in range(len(points))])
 
     def launched(self, text, *given, **options):
         """An editor whose program runs with these breakpoints."""
@@ -208,14 +205,16 @@ class Data(Session):
         return editor
 
     def stop(self, editor):
-        """Runs to the next stop or end. Returns what is told of the change there, or else the reason; None at the end."""
+        """Runs to the next stop or end. Returns what is told of the change there, or else the reason; None at the end. Keeps the
+        numbers of the breakpoints that stop it, if there are any."""
         while (event := editor.event())[0] not in ("stopped", "terminated"):
             pass
         body = event[1]
+        self.ids = body and body.get("hitBreakpointIds")
         if body is None or body["reason"] != "data breakpoint":
             return body and body["reason"]
-        wanted = {"allThreadsStopped": True, "description": body["description"], "reason": "data breakpoint", "threadId": 1}
-        self.assertEqual(body, wanted)
+        told_too = {"description": body["description"], "hitBreakpointIds": self.ids}
+        self.assertEqual(body, {"allThreadsStopped": True, "reason": "data breakpoint", "threadId": 1} | told_too)
         return body["description"]
 
     def on(self, editor, command="continue", **arguments):
@@ -224,15 +223,19 @@ class Data(Session):
         return self.stop(editor)
 
     def stops(self, editor):
-        """All stops of a run up to its end."""
-        found = [self.stop(editor)]
+        """All stops of a run up to its end. Keeps the numbers of the breakpoints at each."""
+        found, self.all_ids = [self.stop(editor)], []
         while found[-1] is not None:
+            self.all_ids.append(self.ids)
             found.append(self.on(editor))
         return found[:-1]
 
-    def tells(self, lines, given, told_then, **options):
+    def tells(self, lines, given, told_then, met=None, **options):
+        """The program must tell these changes, each at the breakpoints with these places among those given, if they are named."""
         with self.subTest(lines=lines, given=given):
             self.assertEqual(self.stops(self.launched(code(*lines), *given, **options)), list(told_then))
+            if met is not None:
+                self.assertEqual(self.all_ids, [[FIRST_DATA_ID + place for place in places] for places in met])
 
 
 class Info(Data):
@@ -293,12 +296,12 @@ class Setting(Data):
         editor.launch(self.count())
         for given, why in WRONG:
             shown = editor.do("setDataBreakpoints", breakpoints=[given, {"dataId": "C"}])["breakpoints"]
-            wanted = [{"id": FIRST_ID, "message": why, "verified": False}, {"id": FIRST_ID + 1, "verified": True}]
+            wanted = [{"id": FIRST_DATA_ID, "message": why, "verified": False}, {"id": FIRST_DATA_ID + 1, "verified": True}]
             self.assertEqual(shown, wanted, str(given)[:80])
         # All at once, and one that is met.
         given = [given for given, _ in WRONG][:15] + [{"dataId": "B"}]
         shown = editor.do("setDataBreakpoints", breakpoints=given)["breakpoints"]
-        wanted = [(FIRST_ID + number, number == 15) for number in range(16)]
+        wanted = [(FIRST_DATA_ID + number, number == 15) for number in range(16)]
         self.assertEqual([(it["id"], it["verified"]) for it in shown], wanted)
         editor.do("configurationDone")
         self.assertEqual(self.stop(editor), "B: 03H, was 00H, by 0100")
@@ -336,7 +339,7 @@ class Setting(Data):
             given = [{"dataId": f"{places[min(number, 16)]}:1"} for number in range(count)]
             shown = editor.do("setDataBreakpoints", breakpoints=given)["breakpoints"]
             many = {"message": "more than 16 data breakpoints", "verified": False}
-            wanted_shown = [{"id": FIRST_ID + number} | (many if number > 15 else {"verified": True}) for number in range(count)]
+            wanted_shown = [{"id": FIRST_DATA_ID + number} | (many if number > 15 else {"verified": True}) for number in range(count)]
             self.assertEqual(shown, wanted_shown)
         editor.do("configurationDone")
         self.assertEqual(self.stops(editor), wanted)
@@ -352,12 +355,12 @@ class Setting(Data):
         given = [{"dataId": "000A:1", "condition": "[COUNT] == 2"}, {"dataId": "PC"}, {"dataId": "B", "condition": "NOTHING"}]
         shown = editor.do("setDataBreakpoints", breakpoints=given)["breakpoints"]
         reason = {"message": "nothing is launched yet", "verified": False}
-        self.assertEqual(shown, [{"id": FIRST_ID + number} | reason for number in range(3)])
+        self.assertEqual(shown, [{"id": FIRST_DATA_ID + number} | reason for number in range(3)])
         editor.do("launch", program=path)
         self.assertEqual(editor.event(), ("initialized", None))
-        self.changes(editor, {"id": FIRST_ID, "verified": True})
-        self.changes(editor, {"id": FIRST_ID + 1, "message": "no register or bytes: PC", "verified": False})
-        self.changes(editor, {"id": FIRST_ID + 2, "message": "condition: Undefined", "verified": False})
+        self.changes(editor, {"id": FIRST_DATA_ID, "verified": True})
+        self.changes(editor, {"id": FIRST_DATA_ID + 1, "message": "no register or bytes: PC", "verified": False})
+        self.changes(editor, {"id": FIRST_DATA_ID + 2, "message": "condition: Undefined", "verified": False})
         editor.do("configurationDone")
         self.assertEqual(self.stops(editor), [counted(2, 3)])
 
@@ -371,12 +374,12 @@ class Setting(Data):
         # What it names isn't there any more, and then it is again.
         self.program(NO_COUNTER)
         editor.do("restart")
-        self.changes(editor, {"id": FIRST_ID, "message": "condition: Undefined", "verified": False})
+        self.changes(editor, {"id": FIRST_DATA_ID, "message": "condition: Undefined", "verified": False})
         self.assertEqual(self.stop(editor), "000A: 01H, was 00H, by 0002")
         self.program(COUNTER.format(times=1))
         self.watch_all_but_first(editor)
         editor.do("restart")
-        self.changes(editor, {"id": FIRST_ID, "verified": True})
+        self.changes(editor, {"id": FIRST_DATA_ID, "verified": True})
         self.assertEqual(self.stop(editor), counted(1, 0))
         self.assertIsNone(self.on(editor))
         editor.do("restart")
@@ -386,7 +389,7 @@ class Setting(Data):
         """Sets the breakpoints anew, of which the first names what isn't there."""
         given = [{"dataId": "000A:1", "condition": "[COUNT] == 1"}, {"dataId": "B"}]
         shown = editor.do("setDataBreakpoints", breakpoints=given)["breakpoints"]
-        wanted = [{"id": FIRST_ID, "message": "condition: Undefined", "verified": False}, {"id": FIRST_ID + 1, "verified": True}]
+        wanted = [{"id": FIRST_DATA_ID, "message": "condition: Undefined", "verified": False}, {"id": FIRST_DATA_ID + 1, "verified": True}]
         self.assertEqual(shown, wanted)
 
     def test_each_request_replaces_all(self):
@@ -443,13 +446,13 @@ class Stops(Data):
 
     def test_several_at_an_instruction(self):
         lines = ("LXI H,1234H", "LXI H,5678H")
-        self.tells(lines, ("L", "H", "HL"), ("L: 34H, was 00H, by 0100", "L: 78H, was 34H, by 0103"))
-        self.tells(lines, ("HL", "L"), ("H: 12H, was 00H, by 0100", "H: 56H, was 12H, by 0103"))
+        self.tells(lines, ("L", "H", "HL"), ("L: 34H, was 00H, by 0100", "L: 78H, was 34H, by 0103"), ((0, 1, 2), (0, 1, 2)))
+        self.tells(lines, ("HL", "L"), ("H: 12H, was 00H, by 0100", "H: 56H, was 12H, by 0103"), ((0, 1), (0, 1)))
         first = {"dataId": "HL", "condition": "L == 78H"}
-        self.tells(lines, (first, "L"), ("L: 34H, was 00H, by 0100", "H: 56H, was 12H, by 0103"))
-        self.tells(lines, (first, {"dataId": "L", "condition": "0"}), ("H: 56H, was 12H, by 0103",))
+        self.tells(lines, (first, "L"), ("L: 34H, was 00H, by 0100", "H: 56H, was 12H, by 0103"), ((1,), (0, 1)))
+        self.tells(lines, (first, {"dataId": "L", "condition": "0"}), ("H: 56H, was 12H, by 0103",), ((0,),))
         self.tells(("LXI SP,2000H", "LXI B,1234H", "PUSH B"), ("1FFF:1", "SP", "1FFE:2"),
-                   ("SP: 2000H, was 0000H, by 0100", "1FFF: 12H, was 00H, by 0106"))
+                   ("SP: 2000H, was 0000H, by 0100", "1FFF: 12H, was 00H, by 0106"), ((1,), (0, 1, 2)))
 
     def test_what_is_printed_is_told_before(self):
         editor = self.editor()
@@ -533,10 +536,12 @@ class Stops(Data):
         self.watch(editor, "A", "B", {"dataId": "SP", "condition": "SP == 0"})
         editor.do("configurationDone")
         self.assertEqual(self.stop(editor), "entry")
-        for command, granularity, wanted, line in (("next", "line", "B: 03H, was 00H, by 0100", NEXT),
-                                                   ("stepIn", "instruction", "A: 03H, was 00H, by 0102", CALL),
-                                                   ("stepIn", "line", "step", SHOW)):
-            self.assertEqual((self.on(editor, command, granularity=granularity), editor.place()[1]), (wanted, line))
+        for command, granularity, wanted, line, ids in (
+                ("next", "line", "B: 03H, was 00H, by 0100", NEXT, [FIRST_DATA_ID + 1]),
+                ("stepIn", "instruction", "A: 03H, was 00H, by 0102", CALL, [FIRST_DATA_ID]),
+                ("stepIn", "line", "step", SHOW, None)):
+            stopped = self.on(editor, command, granularity=granularity)
+            self.assertEqual((stopped, editor.place()[1], self.ids), (wanted, line, ids))
         self.watch(editor, "SP", "B")
         self.assertEqual((self.on(editor, "stepOut"), editor.place()[1]), ("SP: 0000H, was FFFEH, by 0111", AFTER_CALL))
         self.assertEqual((self.on(editor, "next"), editor.place()[1]), ("B: 02H, was 03H, by 0106", JUMP))
@@ -547,13 +552,15 @@ class Stops(Data):
         self.watch(editor, "B")
         editor.set_breakpoints(path, [NEXT])
         editor.do("configurationDone")
-        self.assertEqual(self.stop(editor), "B: 03H, was 00H, by 0100")
+        self.assertEqual((self.stop(editor), self.ids), ("B: 03H, was 00H, by 0100", [FIRST_LINE_ID, FIRST_DATA_ID]))
         self.assertEqual(editor.place()[1], NEXT)
-        self.assertEqual(self.on(editor), "B: 02H, was 03H, by 0106")
-        self.assertEqual(self.on(editor), "breakpoint")
+        self.assertEqual((self.on(editor), self.ids), ("B: 02H, was 03H, by 0106", [FIRST_DATA_ID]))
+        self.assertEqual((self.on(editor), self.ids), ("breakpoint", [FIRST_LINE_ID]))
 
     def test_it_comes_before_a_condition_on_a_line(self):
-        for condition, wanted in (("1", ["B: 03H, was 00H, by 0100", "breakpoint"]), ("B == 2", ["breakpoint", "breakpoint"])):
+        both = [FIRST_LINE_ID, FIRST_DATA_ID]
+        for condition, wanted, ids in (("1", ["B: 03H, was 00H, by 0100", "breakpoint"], both),
+                                       ("B == 2", ["breakpoint", "breakpoint"], both[:1])):
             editor, path = self.editor(), self.count()
             editor.launch(path)
             self.watch(editor, {"dataId": "B", "condition": condition})
@@ -561,8 +568,8 @@ class Stops(Data):
             editor.do("setBreakpoints", source={"path": path}, breakpoints=given)
             editor.do("configurationDone")
             # The condition isn't asked again where the run goes on.
-            first = self.stop(editor), editor.place()[1]
-            self.assertEqual(first, (wanted[0], NEXT))
+            first = self.stop(editor), editor.place()[1], self.ids
+            self.assertEqual(first, (wanted[0], NEXT, ids))
             self.watch(editor)
             self.assertEqual((self.on(editor), editor.place()[1], editor.evaluate("B")), (wanted[1], NEXT, "002H"))
 

@@ -2,8 +2,7 @@
 import time
 import unittest
 
-from editor import Session, printed
-from editor_walks import FIRST_INSTRUCTION_ID
+from editor import AT_INSTRUCTION, AT_LINE, FIRST_DATA_ID, FIRST_INSTRUCTION_ID, FIRST_LINE_ID, ON_DATA, Session, printed
 from test_editor_data import code
 from test_editor_points import COUNTS, MILLION, told
 from test_editor_sessions import CONVERSATION
@@ -29,7 +28,8 @@ MEETS = (
      '"request_seq":3,"seq":4,"success":true,"type":"response"}'),
     ('{"seq":4,"type":"request","command":"configurationDone"}',
      '{"body":{},"command":"configurationDone","request_seq":4,"seq":5,"success":true,"type":"response"}',
-     '{"body":{"allThreadsStopped":true,"reason":"breakpoint","threadId":1},"event":"stopped","seq":6,"type":"event"}'),
+     '{"body":{"allThreadsStopped":true,"hitBreakpointIds":[262657],"reason":"instruction breakpoint","threadId":1},'
+     '"event":"stopped","seq":6,"type":"event"}'),
     ('{"seq":5,"type":"request","command":"stackTrace","arguments":{"threadId":1}}',
      '{"body":{"stackFrames":['
      '{"column":1,"id":1,"instructionPointerReference":"0x010d","line":11,"name":"SHOW","source":{"path":"PATH"}},'
@@ -45,7 +45,8 @@ MEETS = (
      '{"body":{"category":"stdout","output":"3"},"event":"output","seq":11,"type":"event"}',
      '{"body":{"category":"stdout","output":"2"},"event":"output","seq":12,"type":"event"}',
      '{"body":{"category":"stdout","output":"1"},"event":"output","seq":13,"type":"event"}',
-     '{"body":{"allThreadsStopped":true,"reason":"breakpoint","threadId":1},"event":"stopped","seq":14,"type":"event"}'),
+     '{"body":{"allThreadsStopped":true,"hitBreakpointIds":[262657],"reason":"instruction breakpoint","threadId":1},'
+     '"event":"stopped","seq":14,"type":"event"}'),
     ('{"seq":8,"type":"request","command":"reverseContinue","arguments":{"threadId":1}}',
      '{"body":{},"command":"reverseContinue","request_seq":8,"seq":15,"success":true,"type":"response"}',
      '{"body":{"allThreadsStopped":true,"reason":"entry","threadId":1},"event":"stopped","seq":16,"type":"event"}'),
@@ -156,12 +157,13 @@ class Instructions(Session):
         return editor
 
     def stop(self, editor):
-        """Runs to the next stop or end. Returns the reason and PC; None at the end."""
+        """Runs to the next stop or end. Returns the reason and PC; None at the end. Keeps the numbers of the breakpoints."""
         while (event := editor.event())[0] not in ("stopped", "terminated"):
             pass
         if event[1] is None:
             return None
-        self.assertEqual(set(event[1]) - {"description"}, {"allThreadsStopped", "reason", "threadId"})
+        self.assertEqual(set(event[1]) - {"description", "hitBreakpointIds"}, {"allThreadsStopped", "reason", "threadId"})
+        self.ids = event[1].get("hitBreakpointIds")
         return event[1]["reason"], int(editor.shown(1)["PC"].rstrip("H"), 16)
 
     def on(self, editor, command="continue", **arguments):
@@ -170,10 +172,10 @@ class Instructions(Session):
         return self.stop(editor)
 
     def stops(self, editor):
-        """Where it stops up to its end, each time at a breakpoint."""
+        """Where it stops up to its end, each time at an instruction."""
         found = [self.stop(editor)]
         while found[-1] is not None:
-            self.assertEqual(found[-1][0], "breakpoint")
+            self.assertEqual(found[-1][0], AT_INSTRUCTION)
             found.append(self.on(editor))
         return tuple(pc for _, pc in found[:-1])
 
@@ -222,7 +224,7 @@ class Setting(Instructions):
                 why = editor.refusal("setInstructionBreakpoints", breakpoints=items)
                 self.assertEqual(why, "bad arguments: breakpoints", item)
         # Those that were set are kept.
-        self.assertEqual(self.on(editor), ("breakpoint", AT_SHOW))
+        self.assertEqual(self.on(editor), (AT_INSTRUCTION, AT_SHOW))
 
     def test_options_that_ask_for_nothing(self):
         editor = self.editor()
@@ -265,7 +267,7 @@ class Setting(Instructions):
         for _ in range(2):
             self.assertEqual(self.stops(editor), (AT_SHOW, AT_HLT))
             editor.do("restart")
-        self.assertEqual(self.stop(editor), ("breakpoint", AT_SHOW))
+        self.assertEqual(self.stop(editor), (AT_INSTRUCTION, AT_SHOW))
         # What it names isn't there any more, and then it is again. An address stays what it is.
         for text, change in ((code("NOP", "NOP"), unverified(0, "condition: Undefined")),
                              (code("NOP", "NEXT: NOP"), verified(0, AT_SHOW))):
@@ -279,7 +281,7 @@ class Setting(Instructions):
         for _ in range(3):
             self.assertTrue(editor.is_quiet())
             editor.ask_amid("setInstructionBreakpoints", breakpoints=[instruction(0, "HL > 0"), instruction(1)])
-            self.assertEqual(self.stop(editor)[0], "breakpoint")
+            self.assertEqual(self.stop(editor)[0], AT_INSTRUCTION)
             self.set_at(editor)
             editor.do("continue", threadId=1)
             self.assertEqual(editor.event()[0], "continued")
@@ -297,8 +299,8 @@ class Setting(Instructions):
         for command, arguments in asked[:2]:
             editor.do(command, **arguments | {"breakpoints": []})
         editor.do("configurationDone")
-        self.assertEqual(self.stop(editor), ("data breakpoint", AT_JUMP))
-        self.assertEqual(self.on(editor), ("breakpoint", AT_JUMP))
+        self.assertEqual(self.stop(editor), (ON_DATA, AT_JUMP))
+        self.assertEqual(self.on(editor), (AT_INSTRUCTION, AT_JUMP))
         self.assertIsNone(self.on(editor))
 
 
@@ -312,14 +314,19 @@ class Stopping(Instructions):
         for condition, wanted in CONDITIONS.items():
             editor, found = self.launched(self.count(), (AT_SHOW, condition)), []
             while (stopped := self.stop(editor)) is not None:
-                self.assertEqual(stopped, ("breakpoint", AT_SHOW))
+                self.assertEqual(stopped, (AT_INSTRUCTION, AT_SHOW))
                 found.append(int(editor.shown(1)["B"].rstrip("H"), 16))
                 editor.do("continue", threadId=1)
             self.assertEqual(found, wanted, condition)
 
     def test_one_of_several_at_an_instruction_is_enough(self):
         places = ((AT_SHOW, "B == 1"), (AT_SHOW, "0"), (AT_SHOW, "A == 3"), (AT_SHOW, "B == 3"))
-        self.assertEqual(self.stops(self.launched(self.count(), *places)), (AT_SHOW,) * 2)
+        editor = self.launched(self.count(), *places)
+        for numbers in ((2, 3), (0,)):
+            self.assertEqual(self.stop(editor), (AT_INSTRUCTION, AT_SHOW))
+            self.assertEqual(self.ids, [FIRST_INSTRUCTION_ID + number for number in numbers])
+            editor.do("continue", threadId=1)
+        self.assertIsNone(self.stop(editor))
 
     def test_amid_a_step_over_a_routine(self):
         editor = self.launched(self.count(), (AT_ADD, "B == 2"), stopOnEntry=True)
@@ -327,23 +334,23 @@ class Stopping(Instructions):
         # The condition is false on the way.
         for address in (AT_NEXT, AT_CALL, AT_AFTER, AT_JUMP, AT_NEXT, AT_CALL):
             self.assertEqual(self.on(editor, "next"), ("step", address))
-        self.assertEqual(self.on(editor, "next"), ("breakpoint", AT_ADD))
+        self.assertEqual(self.on(editor, "next"), (AT_INSTRUCTION, AT_ADD))
         self.assertEqual(editor.frames(), [("SHOW", SHOW + 1), ("main", CALL)])
         self.assertEqual(self.on(editor, "stepOut"), ("step", AT_AFTER))
         # The step over the routine is over.
         self.set_at(editor, AT_RETURN)
-        self.assertEqual(self.on(editor), ("breakpoint", AT_RETURN))
+        self.assertEqual(self.on(editor), (AT_INSTRUCTION, AT_RETURN))
         self.assertEqual(self.on(editor, "stepOut"), ("step", AT_AFTER))
         self.assertIsNone(self.on(editor))
 
     def test_amid_a_step_out_and_a_line(self):
         path = self.count()
         editor = self.launched(path, AT_SHOW, AT_OUT)
-        self.assertEqual(self.stop(editor), ("breakpoint", AT_SHOW))
-        self.assertEqual(self.on(editor, "stepOut"), ("breakpoint", AT_OUT))
+        self.assertEqual(self.stop(editor), (AT_INSTRUCTION, AT_SHOW))
+        self.assertEqual(self.on(editor, "stepOut"), (AT_INSTRUCTION, AT_OUT))
         editor = self.launched(self.program("START: DB 3CH,3DH,3CH\n HLT\n END START\n"), 1, stopOnEntry=True)
         self.assertEqual(self.stop(editor), ("entry", 0))
-        self.assertEqual(self.on(editor, "next"), ("breakpoint", 1))
+        self.assertEqual(self.on(editor, "next"), (AT_INSTRUCTION, 1))
         self.assertEqual(self.on(editor, "next"), ("step", 3))
 
     def test_where_a_step_ends(self):
@@ -356,21 +363,21 @@ class Stopping(Instructions):
         editor = self.launched(self.program("START: INX H\nNEXT: JMP NEXT\n END START\n"), 1, stopOnEntry=True)
         self.assertEqual(self.stop(editor), ("entry", 0))
         for _ in range(3):
-            self.assertEqual(self.on(editor), ("breakpoint", 1))
+            self.assertEqual(self.on(editor), (AT_INSTRUCTION, 1))
         # It isn't met where it is set, and not where PC is set.
         editor = self.launched(self.count(), AT_SHOW, stopAtEnd=True)
-        self.assertEqual(self.stop(editor), ("breakpoint", AT_SHOW))
+        self.assertEqual(self.stop(editor), (AT_INSTRUCTION, AT_SHOW))
         self.set_at(editor, AT_SHOW, AT_ADD)
-        self.assertEqual(self.on(editor), ("breakpoint", AT_ADD))
+        self.assertEqual(self.on(editor), (AT_INSTRUCTION, AT_ADD))
         editor.do("goto", threadId=1, targetId=AT_SHOW)
         self.assertEqual(self.stop(editor), ("goto", AT_SHOW))
-        self.assertEqual(self.on(editor), ("breakpoint", AT_ADD))
+        self.assertEqual(self.on(editor), (AT_INSTRUCTION, AT_ADD))
 
     def test_before_the_first_instruction_none_is_met(self):
         editor = self.launched(self.program("START: DCR B\n JNZ START\n HLT\n END START\n"), (0, "B < 2 || B > 254"))
-        self.assertEqual(self.stop(editor), ("breakpoint", 0))
+        self.assertEqual(self.stop(editor), (AT_INSTRUCTION, 0))
         self.assertEqual(editor.shown(1)["B"], "0FFH")
-        self.assertEqual(self.on(editor), ("breakpoint", 0))
+        self.assertEqual(self.on(editor), (AT_INSTRUCTION, 0))
         self.assertEqual(editor.shown(1)["B"], "001H")
 
     def test_beside_one_on_a_line(self):
@@ -380,7 +387,13 @@ class Stopping(Instructions):
         given = [{"line": SHOW}, {"line": AFTER_CALL, "condition": "B == 3"}, {"line": AFTER_CALL + 1, "condition": "B == 1"}]
         editor.do("setBreakpoints", source={"path": path}, breakpoints=given)
         editor.do("configurationDone")
-        self.assertEqual(self.stops(editor), (AT_SHOW, AT_AFTER, AT_SHOW, AT_AFTER, AT_JUMP, AT_SHOW))
+        both, found = (AT_LINE, AT_SHOW, [FIRST_LINE_ID, FIRST_INSTRUCTION_ID]), []
+        while (stopped := self.stop(editor)) is not None:
+            found.append((*stopped, self.ids))
+            editor.do("continue", threadId=1)
+        wanted = [both, (AT_LINE, AT_AFTER, [FIRST_LINE_ID + 1]), both, (AT_INSTRUCTION, AT_AFTER, [FIRST_INSTRUCTION_ID + 1]),
+                  (AT_LINE, AT_JUMP, [FIRST_LINE_ID + 2]), both]
+        self.assertEqual(found, wanted)
 
     def test_a_log_message_at_the_place_is_told_when_the_run_goes_on(self):
         editor, path = self.editor(), self.count()
@@ -401,8 +414,10 @@ class Stopping(Instructions):
         editor.do("setDataBreakpoints", breakpoints=[{"dataId": "B", "condition": "B == 2"}])
         self.set_at(editor, AT_JUMP)
         editor.do("configurationDone")
-        found = [self.stop(editor), *(self.on(editor) for _ in range(3))]
-        self.assertEqual(found, [("data breakpoint", AT_JUMP), ("breakpoint", AT_JUMP), ("breakpoint", AT_JUMP), None])
+        self.assertEqual((self.stop(editor), self.ids), ((ON_DATA, AT_JUMP), [FIRST_DATA_ID, FIRST_INSTRUCTION_ID]))
+        for _ in range(2):
+            self.assertEqual((self.on(editor), self.ids), ((AT_INSTRUCTION, AT_JUMP), [FIRST_INSTRUCTION_ID]))
+        self.assertIsNone(self.on(editor))
 
     def test_what_is_printed_is_told_before(self):
         editor = self.launched(self.count(), AT_AFTER, stopAtEnd=True)
@@ -415,19 +430,20 @@ class Stopping(Instructions):
         path = self.count()
         editor = self.launched(path, (AT_ADD, "B != 2"), stopAtEnd=True)
         forward = [self.stop(editor), *(self.on(editor) for _ in range(2))]
-        self.assertEqual(forward, [("breakpoint", AT_ADD)] * 2 + [("step", AT_SHOW)])
-        back = [("breakpoint", AT_ADD)] * 2 + [("entry", AT_FIRST)]
+        self.assertEqual(forward, [(AT_INSTRUCTION, AT_ADD)] * 2 + [("step", AT_SHOW)])
+        back = [(AT_INSTRUCTION, AT_ADD)] * 2 + [("entry", AT_FIRST)]
         self.assertEqual([self.on(editor, "reverseContinue") for _ in back], back)
         self.assertEqual([self.on(editor) for _ in range(3)], forward)
         # Those that are set now, also where the program passed before they were set, and beside those on lines.
         self.set_at(editor, (AT_OUT, "B == 3"), AT_HLT, (AT_SHOW, "0"), AT_JUMP + 1)
         editor.set_breakpoints(path, [CALL])
-        wanted = [("breakpoint", address) for address in (AT_HLT, AT_CALL, AT_CALL, AT_OUT, AT_CALL)] + [("entry", AT_FIRST)]
+        wanted = [(AT_INSTRUCTION, AT_HLT), (AT_LINE, AT_CALL), (AT_LINE, AT_CALL), (AT_INSTRUCTION, AT_OUT), (AT_LINE, AT_CALL),
+                  ("entry", AT_FIRST)]
         self.assertEqual([self.on(editor, "reverseContinue") for _ in wanted], wanted)
         # A step back passes over them.
-        self.assertEqual(self.on(editor), ("breakpoint", AT_CALL))
+        self.assertEqual(self.on(editor), (AT_LINE, AT_CALL))
         editor.set_breakpoints(path, [])
-        self.assertEqual(self.on(editor), ("breakpoint", AT_OUT))
+        self.assertEqual(self.on(editor), (AT_INSTRUCTION, AT_OUT))
         self.assertEqual(self.on(editor, "next"), ("step", AT_RETURN))
         self.assertEqual(self.on(editor, "next"), ("step", AT_AFTER))
         self.assertEqual(self.on(editor, "stepBack"), ("step", AT_CALL))
@@ -435,7 +451,7 @@ class Stopping(Instructions):
     def test_going_back_to_the_first_instruction(self):
         editor = self.launched(self.count(), AT_FIRST, stopAtEnd=True)
         self.assertEqual(self.stop(editor), ("step", AT_SHOW))
-        self.assertEqual(self.on(editor, "reverseContinue"), ("breakpoint", AT_FIRST))
+        self.assertEqual(self.on(editor, "reverseContinue"), (AT_INSTRUCTION, AT_FIRST))
 
     def test_without_a_debugger_there_are_none(self):
         editor = self.launched(self.count(), AT_SHOW, (AT_HLT, "1"), noDebug=True)
@@ -443,7 +459,7 @@ class Stopping(Instructions):
 
     def test_before_an_undefined_opcode(self):
         editor = self.launched(self.program("START: NOP\n DB 8\n END START\n"), 1)
-        self.assertEqual(self.stop(editor), ("breakpoint", 1))
+        self.assertEqual(self.stop(editor), (AT_INSTRUCTION, 1))
         editor.do("continue", threadId=1)
         self.assertEqual(editor.output_to_end(), ("", 1))
 
@@ -452,12 +468,12 @@ class Stopping(Instructions):
         for places, waits in (((8,), False), ((0x105,), True), (((8, "SP == 1FFEH"), (8, "0"), 0x200), False)):
             editor = self.launched(self.program(code("LXI SP,2000H", "EI", "HLT", "NOP")), *places, stopAtEnd=True)
             if waits:
-                self.assertEqual(self.stop(editor), ("breakpoint", 0x105))
+                self.assertEqual(self.stop(editor), (AT_INSTRUCTION, 0x105))
                 editor.do("continue", threadId=1)
                 self.assertEqual(editor.event()[0], "continued")
             self.assertTrue(editor.is_quiet())
             self.assertEqual(editor.evaluate("press 1", "repl"), "ok")
-            self.assertEqual(self.stop(editor), ("breakpoint", 0x105 if waits else 8))
+            self.assertEqual(self.stop(editor), (AT_INSTRUCTION, 0x105 if waits else 8))
             self.assertEqual(self.on(editor), ("step", 0x107))
 
     def test_a_question_for_a_line(self):

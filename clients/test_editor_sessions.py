@@ -6,7 +6,7 @@ import time
 import unittest
 
 from dap_wire import CLIENT
-from editor import Session, printed
+from editor import AT_LABEL, Session, printed
 
 # Lines of examples/count.asm: CALL SHOW, the line after it, and the routine's lines.
 CALL, AFTER_CALL, SHOW, ADD, RETURN = 5, 6, 10, 11, 13
@@ -111,7 +111,8 @@ CONVERSATION = (
      '"success":true,"type":"response"}'),
     ('{"seq":4,"type":"request","command":"configurationDone"}',
      '{"body":{},"command":"configurationDone","request_seq":4,"seq":5,"success":true,"type":"response"}',
-     '{"body":{"allThreadsStopped":true,"reason":"breakpoint","threadId":1},"event":"stopped","seq":6,"type":"event"}'),
+     '{"body":{"allThreadsStopped":true,"hitBreakpointIds":[257],"reason":"breakpoint","threadId":1},"event":"stopped","seq":6,'
+     '"type":"event"}'),
     ('{"seq":5,"type":"request","command":"stackTrace","arguments":{"threadId":1}}',
      '{"body":{"stackFrames":['
      '{"column":1,"id":1,"instructionPointerReference":"0x010b","line":10,"name":"SHOW","source":{"path":"PATH"}},'
@@ -197,7 +198,8 @@ BACKWARD = (
      '"success":true,"type":"response"}'),
     ('{"seq":7,"type":"request","command":"reverseContinue","arguments":{"threadId":1}}',
      '{"body":{},"command":"reverseContinue","request_seq":7,"seq":12,"success":true,"type":"response"}',
-     '{"body":{"allThreadsStopped":true,"reason":"breakpoint","threadId":1},"event":"stopped","seq":13,"type":"event"}'),
+     '{"body":{"allThreadsStopped":true,"hitBreakpointIds":[257],"reason":"breakpoint","threadId":1},"event":"stopped","seq":13,'
+     '"type":"event"}'),
     ('{"seq":8,"type":"request","command":"stackTrace","arguments":{"threadId":1}}',
      '{"body":{"stackFrames":['
      '{"column":1,"id":1,"instructionPointerReference":"0x010b","line":10,"name":"SHOW","source":{"path":"PATH"}},'
@@ -217,7 +219,8 @@ BACKWARD = (
     ('{"seq":12,"type":"request","command":"continue","arguments":{"threadId":1}}',
      '{"body":{"allThreadsContinued":true},"command":"continue","request_seq":12,"seq":20,"success":true,"type":"response"}',
      '{"body":{"allThreadsContinued":true,"threadId":1},"event":"continued","seq":21,"type":"event"}',
-     '{"body":{"allThreadsStopped":true,"reason":"breakpoint","threadId":1},"event":"stopped","seq":22,"type":"event"}'),
+     '{"body":{"allThreadsStopped":true,"hitBreakpointIds":[257],"reason":"breakpoint","threadId":1},"event":"stopped","seq":22,'
+     '"type":"event"}'),
     ('{"seq":13,"type":"request","command":"evaluate","arguments":{"expression":"back start","context":"repl"}}',
      '{"body":{"result":"ok","variablesReference":0},"command":"evaluate","request_seq":13,"seq":23,"success":true,'
      '"type":"response"}',
@@ -352,7 +355,7 @@ class Breakpoints(Session):
         self.assertEqual([(it.get("line"), it["verified"]) for it in shown], [(SHOW, True), (None, False), (3, True)])
         editor.do("configurationDone")
         for place in (("main", 3), ("SHOW", SHOW)):
-            self.assertEqual(editor.stop(), "breakpoint")
+            self.assertEqual(editor.stop(), AT_LABEL)
             self.assertEqual(editor.place(), place)
             editor.do("continue", threadId=1)
         editor.do("setFunctionBreakpoints", breakpoints=[])

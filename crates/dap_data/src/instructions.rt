@@ -6,10 +6,9 @@ ghost use Rattle.lab_core.specs.Labs.{RepresentsBoard};
 ghost use Rattle.dap_data.specs.Instructions.{instruction_objection, checked_instruction, instructions_on};
 ghost use Rattle.dap_data.specs.Instructions.{break_at, break_of, breaks_on};
 
-use crate::points::push_stop;
 use base_text::sequence::Sequence;
 use dap_editor::request::InstructionBreakpoint;
-use dap_lines::conditions::{objection, stop_by};
+use dap_lines::conditions::{objection, push_point, stop_by};
 use dap_messages::message::{BreakpointNote, PlacedBreakpoint};
 use dap_points::placed::{CheckedInstruction, instruction_points as placed_points};
 use dap_slice::conditions::{ConditionalBreakpoint, ConditionalBreakpoints, Trigger};
@@ -119,7 +118,7 @@ fn push_all(
 {
     let mut left = placed;
     while let Some((point, later)) = left.split_first() {
-        push_stop(points, break_of(alloc, point)?)?;
+        push_point(points, break_of(alloc, point)?)?;
         left = later;
     }
     Ok(())

@@ -1,5 +1,5 @@
 //! Breakpoints on data.
-ghost use Rattle.std.specs.Prelude.{◌≡◌, ◌≤◌, ◌++◌, length, map, IfOk, OnOk, IfSome, option_to_list};
+ghost use Rattle.std.specs.Prelude.{◌≡◌, ◌≤◌, ◌++◌, length, map, IfOk, OnOk, IfSome};
 ghost use Rattle.std.specs.List.{filter_map};
 ghost use Rattle.lab_core.specs.Board.{Board};
 ghost use Rattle.lab_core.specs.Labs.{RepresentsBoard};
@@ -13,10 +13,10 @@ use crate::place::DataPlace;
 use base_text::sequence::Sequence;
 use base_text::text::Text;
 use dap_editor::request::DataBreakpoint;
-use dap_lines::conditions::{objection, stop_by};
+use dap_lines::conditions::{objection, push_point, stop_by};
 use dap_messages::message::{BreakpointNote, PlacedBreakpoint};
 use dap_points::placed::{CheckedData, data_points as placed_points};
-use dap_slice::conditions::{ConditionalBreakpoint, ConditionalBreakpoints, Trigger};
+use dap_slice::conditions::{ConditionalBreakpoints, Trigger};
 use lab_core::lab::Lab;
 use lab_shown::place::Place;
 use std::alloc::{AllocError, Global};
@@ -97,19 +97,6 @@ pub fn data_points(
 
 // ---- where they stop a run
 
-/// Adds where a run stops, if it does.
-pub(crate) fn push_stop(
-    points: &mut ConditionalBreakpoints,
-    stop: Option<ConditionalBreakpoint>,
-) -> Result<(), AllocError>
-    ensures { OnOk result (points.new ≡ points.old ++ option_to_list stop) }
-{
-    match stop {
-        None => Ok(()),
-        Some(stop) => points.push(stop),
-    }
-}
-
 fn push_places(
     alloc: Global,
     points: &mut ConditionalBreakpoints,
@@ -122,7 +109,7 @@ fn push_places(
     let mut left = places;
     while let Some((place, later)) = left.split_first() {
         let stop = stop_by(alloc, point.id, Trigger::Change(*place), &point.options)?;
-        push_stop(points, stop)?;
+        push_point(points, stop)?;
         left = later;
     }
     Ok(())

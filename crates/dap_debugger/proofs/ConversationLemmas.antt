@@ -9,7 +9,7 @@ use Rattle.base_text.specs.Bytes.{Bytes}
 use Rattle.base_streams.specs.States.{OutletState}
 use Rattle.base_streams.specs.Told.{Told, ToldPrefix}
 use Rattle.base_streams.proofs.TellLemmas.{told_on}
-use Rattle.dap_history.specs.declared.goal.Goal.{Goal}
+use Rattle.dap_search.specs.declared.goal.Goal.{Goal}
 use Rattle.dap_session.specs.States.{wants_slice}
 use Rattle.dap_record.specs.Recordings.{RecordedState, recorded_before_requests}
 use Rattle.dap_record.specs.Represents.{RepresentsRecorded}

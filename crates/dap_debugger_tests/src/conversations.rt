@@ -4,10 +4,9 @@ use crate::talks::{bytes_out, converse_with};
 use base_streams::memory::Sink;
 use dap_debugger::conversation::ConversationEnd;
 use dap_debugger::incoming::StreamEnd;
-use std::alloc::Global;
+use std::alloc::{AllocError, AllocGlobal};
 use std::process::Abort;
 use std::sync::Wait;
-use std::test::Fail;
 
 /// A program that writes a letter and halts, and a disconnect, behind which nothing is read.
 const LETTER: &str = r#"
@@ -223,8 +222,8 @@ const PATHS: &str = r#"
 > {"seq":5,"type":"request","command":"configurationDone"}
 < {"body":{},"command":"configurationDone","request_seq":5,"seq":6,"success":true,"type":"response"}
 < {"body":{"category":"stdout","output":"A"},"event":"output","seq":7,"type":"event"}
-< {"body":{"allThreadsStopped":true,"reason":"breakpoint","threadId":1},"event":"stopped","seq":8,
-    "type":"event"}
+< {"body":{"allThreadsStopped":true,"hitBreakpointIds":[257],"reason":"breakpoint","threadId":1},
+    "event":"stopped","seq":8,"type":"event"}
 > {"seq":6,"type":"request","command":"evaluate","arguments":{"expression":"PC"}}
 < {"body":{"result":"00105H","variablesReference":0},"command":"evaluate","request_seq":6,"seq":9,
     "success":true,"type":"response"}
@@ -239,56 +238,76 @@ const PATHS: &str = r#"
 < {"body":{},"command":"disconnect","request_seq":9,"seq":12,"success":true,"type":"response"}
 "#;
 
-const TALKS: [(&str, ConversationEnd); 6] = [
-    (LETTER, ConversationEnd::Disconnected),
-    (LOOP, ConversationEnd::Stream(StreamEnd::ReadFailed)),
-    (BACK, ConversationEnd::Disconnected),
-    (SEARCH, ConversationEnd::Disconnected),
-    (PATHS, ConversationEnd::Disconnected),
-    ("", ConversationEnd::Stream(StreamEnd::Ended)),
-];
-
-fn check_talk<R: Wait + Abort>(
+// Converses with an editor that is away from this write on, of 100 bytes each. What is wrong then, or an
+// empty text.
+fn fault_in<R: Wait + AllocGlobal>(
     rt: &R,
-    alloc: Global,
     talk: &str,
-    wanted: ConversationEnd,
-) -> Result<(), Fail> {
-    let bytes = bytes_out(alloc, talk)?;
-    let mut sink = Sink::new(alloc, 100, 10_000);
-    let end = converse_with(rt, alloc, talk, &mut sink)?;
-    assert!(rt; sink.as_slice() == bytes.as_bytes(), "other bytes");
-    assert!(rt; end == wanted, "another end");
-    Ok(())
-}
-
-#[test]
-fn what_goes_out_answers_what_came(rt: HostRuntime) -> Result<(), Fail> {
-    for (talk, wanted) in TALKS {
-        check_talk(&rt, rt.alloc(), talk, wanted)?;
-    }
-    Ok(())
-}
-
-// The editor is away from this write on, of 100 bytes each.
-fn check_cut<R: Wait + Abort>(
-    rt: &R,
-    alloc: Global,
     bytes: &[u8],
     writes: u64,
-) -> Result<(), Fail> {
-    let mut sink = Sink::new(alloc, 100, writes);
-    let end = converse_with(rt, alloc, LETTER, &mut sink)?;
-    assert!(rt; bytes.starts_with(sink.as_slice()), "other bytes");
-    assert!(rt; end == ConversationEnd::WriteFailed, "another end");
-    Ok(())
+    wanted: ConversationEnd,
+) -> Result<&'static str, AllocError> {
+    let mut sink = Sink::new(rt.alloc(), 100, writes);
+    let end = converse_with(rt, rt.alloc(), talk, &mut sink);
+    let is_begun = bytes.starts_with(sink.as_slice());
+    let is_whole = sink.as_slice().len() == bytes.len();
+    drop(sink);
+    if end? != wanted {
+        return Ok("another end");
+    }
+    if is_begun && (is_whole || wanted == ConversationEnd::WriteFailed) {
+        return Ok("");
+    }
+    Ok("other bytes")
+}
+
+fn expect_cut<R: Wait + Abort + AllocGlobal>(
+    rt: &R,
+    talk: &str,
+    bytes: &[u8],
+    writes: u64,
+    wanted: ConversationEnd,
+) {
+    match fault_in(rt, talk, bytes, writes, wanted) {
+        Ok(fault) => assert!(rt; fault.is_empty(), "{fault}"),
+        Err(_) => rt.panic("there is no memory"),
+    }
+}
+
+// All goes out that a talk has, and it ends so.
+fn expect_talk<R: Wait + Abort + AllocGlobal>(rt: &R, talk: &str, wanted: ConversationEnd) {
+    match bytes_out(rt.alloc(), talk) {
+        Ok(bytes) => {
+            expect_cut(rt, talk, bytes.as_bytes(), 10_000, wanted);
+            drop(bytes);
+        }
+        Err(_) => rt.panic("there is no memory"),
+    }
 }
 
 #[test]
-fn a_write_that_fails_ends_it(rt: HostRuntime) -> Result<(), Fail> {
-    let bytes = bytes_out(rt.alloc(), LETTER)?;
+fn what_goes_out_answers_what_came(rt: HostRuntime) {
+    expect_talk(&rt, LETTER, ConversationEnd::Disconnected);
+    expect_talk(&rt, LOOP, ConversationEnd::Stream(StreamEnd::ReadFailed));
+    expect_talk(&rt, BACK, ConversationEnd::Disconnected);
+    expect_talk(&rt, SEARCH, ConversationEnd::Disconnected);
+    expect_talk(&rt, PATHS, ConversationEnd::Disconnected);
+    expect_talk(&rt, "", ConversationEnd::Stream(StreamEnd::Ended));
+}
+
+#[test]
+fn a_write_that_fails_ends_it(rt: HostRuntime) {
+    let Ok(bytes) = bytes_out(rt.alloc(), LETTER) else {
+        rt.panic("there is no memory")
+    };
     for writes in 0..12 {
-        check_cut(&rt, rt.alloc(), bytes.as_bytes(), writes)?;
+        expect_cut(
+            &rt,
+            LETTER,
+            bytes.as_bytes(),
+            writes,
+            ConversationEnd::WriteFailed,
+        );
     }
-    Ok(())
+    drop(bytes);
 }

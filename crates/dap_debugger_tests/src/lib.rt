@@ -9,6 +9,8 @@ mod answers;
 #[cfg(test)]
 mod cells;
 #[cfg(test)]
+mod checks;
+#[cfg(test)]
 mod conversations;
 #[cfg(test)]
 mod requests;

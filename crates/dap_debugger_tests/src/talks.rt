@@ -98,18 +98,29 @@ impl BodySource for Script<'_> {
     }
 }
 
+fn push_line(rows: &mut String, line: &str) -> Result<(), AllocError> {
+    if let Some(rest) = line.strip_prefix("    ") {
+        return rows.push_str(rest);
+    }
+    rows.push_str("\n")?;
+    rows.push_str(line)
+}
+
 // A talk with each row in one line.
 fn rows_of(alloc: Global, talk: &str) -> Result<String, AllocError> {
     let mut rows = String::new(alloc);
     for line in talk.lines() {
-        if let Some(rest) = line.strip_prefix("    ") {
-            rows.push_str(rest)?;
-        } else {
-            rows.push_str("\n")?;
-            rows.push_str(line)?;
-        }
+        push_line(&mut rows, line)?;
     }
     Ok(rows)
+}
+
+fn push_coming(coming: &mut String, row: &str) -> Result<(), AllocError> {
+    if row.is_empty() || row.starts_with("< ") {
+        return Ok(());
+    }
+    coming.push_str(row.strip_prefix("> ").unwrap_or(row))?;
+    coming.push_str("\n")
 }
 
 // What comes in a talk: a body, or a sign, in each line.
@@ -117,13 +128,17 @@ fn rows_in(alloc: Global, talk: &str) -> Result<String, AllocError> {
     let rows = rows_of(alloc, talk)?;
     let mut coming = String::new(alloc);
     for row in rows.lines() {
-        let row = row.strip_prefix("> ").unwrap_or(row);
-        if !row.is_empty() && !row.starts_with("< ") {
-            coming.push_str(row)?;
-            coming.push_str("\n")?;
-        }
+        push_coming(&mut coming, row)?;
     }
     Ok(coming)
+}
+
+// The header and the body of a row that goes out.
+fn push_out(out: &mut String, row: &str) -> Result<(), AllocError> {
+    match row.strip_prefix("< ") {
+        Some(body) => write!(out, "Content-Length: {}\r\n\r\n{body}", body.len()),
+        None => Ok(()),
+    }
 }
 
 /// The bytes that go out in a talk: each body with its header (Debug Adapter Protocol, "Base Protocol").
@@ -131,9 +146,7 @@ pub fn bytes_out(alloc: Global, talk: &str) -> Result<String, AllocError> {
     let rows = rows_of(alloc, talk)?;
     let mut out = String::new(alloc);
     for row in rows.lines() {
-        if let Some(body) = row.strip_prefix("< ") {
-            write!(out, "Content-Length: {}\r\n\r\n{body}", body.len())?;
-        }
+        push_out(&mut out, row)?;
     }
     Ok(out)
 }

@@ -1,99 +1,74 @@
 //! Requests as editors write them: what each is read as.
+use crate::checks::{expect_made, made, parts};
 use base_text::text::Text;
 use dap_editor::reading::read_editor_request;
 use dap_editor::request::{
-    DataBreakpoint, DataQuery, EditorCommand, EditorRequest, EvaluateContext, ExceptionFilters,
-    FunctionBreakpoint, InstructionBreakpoint, Launch, LineBreakpoint, RequestContent,
-    RequestFault, SignedOffset, SupportedEvents,
+    DataBreakpoint, EditorCommand, EditorRequest, EvaluateContext, FunctionBreakpoint,
+    InstructionBreakpoint, Launch, LineBreakpoint, RequestContent, RequestFault, SignedOffset,
 };
 use dap_messages::message::BreakpointOptions;
 use lab_shown::step::Granularity;
 use serde_json::Value;
-use std::alloc::{AllocError, Global};
-use std::test::Fail;
+use std::alloc::{AllocError, AllocGlobal, Global};
+use std::process::Abort;
 
-fn truth_word(truth: bool) -> &'static str {
-    if truth { "true" } else { "false" }
+// Adds a word behind a blank.
+fn put(told: &mut String, word: &str) -> Result<(), AllocError> {
+    told.push_str(" ")?;
+    told.push_str(word)
+}
+
+fn put_truth(told: &mut String, truth: bool) -> Result<(), AllocError> {
+    told.push_str(if truth { " true" } else { " false" })
+}
+
+fn put_number(told: &mut String, number: u32) -> Result<(), AllocError> {
+    write!(told, " {number}")
 }
 
 fn put_shift(told: &mut String, shift: SignedOffset) -> Result<(), AllocError> {
     match shift {
-        SignedOffset::Forward(n) => write!(told, " +{n}")?,
-        SignedOffset::Back(n) => write!(told, " -{n}")?,
+        SignedOffset::Forward(n) => write!(told, " +{n}"),
+        SignedOffset::Back(n) => write!(told, " -{n}"),
     }
-    Ok(())
 }
 
-fn put_supported(told: &mut String, supported: SupportedEvents) -> Result<(), AllocError> {
-    let invalidated = truth_word(supported.invalidated);
-    let memory = truth_word(supported.memory);
-    write!(told, "initialize {invalidated} {memory}")?;
-    Ok(())
+fn put_launch(told: &mut String, launch: &Launch) -> Result<(), AllocError> {
+    put(told, "launch")?;
+    put(told, launch.program.as_str())?;
+    put_truth(told, launch.stops_on_entry)?;
+    put_truth(told, launch.stops_at_end)?;
+    put_truth(told, launch.is_debugged)?;
+    put_truth(told, launch.has_aliases)?;
+    put_number(told, u32::from(launch.switches))?;
+    put_launch_texts(told, launch)
 }
 
-// Adds what is typed, if there is something.
-fn put_input(told: &mut String, input: &str) -> Result<(), AllocError> {
+// Adds what is typed, if there is something, and the canonical path, if it is another one.
+fn put_launch_texts(told: &mut String, launch: &Launch) -> Result<(), AllocError> {
+    let input = launch.input.as_str();
     if !input.is_empty() {
         write!(told, " [{input}]")?;
     }
-    Ok(())
-}
-
-fn put_filters(told: &mut String, filters: ExceptionFilters) -> Result<(), AllocError> {
-    let undefined = truth_word(filters.undefined);
-    let halt = truth_word(filters.halt);
-    write!(told, "exceptions {undefined} {halt}")?;
-    Ok(())
-}
-
-fn granularity_word(granularity: Granularity) -> &'static str {
-    match granularity {
-        Granularity::Line => "back by line",
-        Granularity::Instruction => "back by instruction",
+    if launch.has_watch_commands {
+        put(told, "watch")?;
     }
-}
-
-fn put_target_line(told: &mut String, path: &str, line: u32) -> Result<(), AllocError> {
-    write!(told, "targets {path} {line}")?;
-    Ok(())
-}
-
-// Adds the canonical path, if it is another one.
-fn put_canonical(told: &mut String, path: &str, canonical: &str) -> Result<(), AllocError> {
-    if canonical != path {
+    let canonical = launch.canonical.as_str();
+    if canonical != launch.program.as_str() {
         write!(told, " at {canonical}")?;
     }
     Ok(())
 }
 
-fn put_launch(told: &mut String, launch: &Launch) -> Result<(), AllocError> {
-    let program = launch.program.as_str();
-    let entry = truth_word(launch.stops_on_entry);
-    let end = truth_word(launch.stops_at_end);
-    let debugged = truth_word(launch.is_debugged);
-    let aliases = truth_word(launch.has_aliases);
-    let switches = launch.switches;
-    write!(
-        told,
-        "launch {program} {entry} {end} {debugged} {aliases} {switches}"
-    )?;
-    put_input(told, launch.input.as_str())?;
-    if launch.has_watch_commands {
-        told.push_str(" watch")?;
-    }
-    put_canonical(told, program, launch.canonical.as_str())
-}
-
 // Adds an option after this word, if it is there.
 fn put_option(told: &mut String, word: &str, option: &Option<Text>) -> Result<(), AllocError> {
-    if let Some(option) = option {
-        let text = option.as_str();
-        write!(told, " {word} {text}")?;
+    match option {
+        Some(option) => write!(told, " {word} {}", option.as_str()),
+        None => Ok(()),
     }
-    Ok(())
 }
 
-// What follows a breakpoint: its options, and `?` if one isn't a text.
+// Adds what follows a breakpoint: its options, and `?` if one isn't a text.
 fn put_options(
     told: &mut String,
     options: &BreakpointOptions,
@@ -102,54 +77,30 @@ fn put_options(
     put_option(told, "if", &options.condition)?;
     put_option(told, "hit", &options.hit_condition)?;
     put_option(told, "log", &options.log_message)?;
-    if !has_texts {
-        told.push_str("?")?;
-    }
-    Ok(())
+    told.push_str(if has_texts { "" } else { "?" })
 }
 
-fn put_lines(
-    told: &mut String,
-    path: &str,
-    breakpoints: &[LineBreakpoint],
-) -> Result<(), AllocError> {
-    write!(told, "lines {path}")?;
+fn put_lines(told: &mut String, breakpoints: &[LineBreakpoint]) -> Result<(), AllocError> {
     for breakpoint in breakpoints {
-        let line = breakpoint.line;
-        write!(told, " {line}")?;
+        put_number(told, breakpoint.line)?;
         put_options(told, &breakpoint.options, breakpoint.has_texts)?;
     }
     Ok(())
 }
 
 fn put_functions(told: &mut String, breakpoints: &[FunctionBreakpoint]) -> Result<(), AllocError> {
-    told.push_str("functions")?;
     for breakpoint in breakpoints {
-        let name = breakpoint.name.as_str();
-        write!(told, " {name}")?;
+        put(told, breakpoint.name.as_str())?;
         put_options(told, &breakpoint.options, breakpoint.has_texts)?;
     }
     Ok(())
 }
 
-fn put_query(told: &mut String, query: &DataQuery) -> Result<(), AllocError> {
-    let scope = query.scope;
-    let name = query.name.as_str();
-    let count = query.count;
-    let address = truth_word(query.is_address);
-    write!(told, "info {scope} {count} {address} {name}")?;
-    Ok(())
-}
-
 // Each with `*` if it is for reads too.
 fn put_data(told: &mut String, breakpoints: &[DataBreakpoint]) -> Result<(), AllocError> {
-    told.push_str("data")?;
     for breakpoint in breakpoints {
-        let id = breakpoint.data_id.as_str();
-        write!(told, " {id}")?;
-        if !breakpoint.is_write {
-            told.push_str("*")?;
-        }
+        put(told, breakpoint.data_id.as_str())?;
+        told.push_str(if breakpoint.is_write { "" } else { "*" })?;
         put_options(told, &breakpoint.options, breakpoint.has_texts)?;
     }
     Ok(())
@@ -160,10 +111,9 @@ fn put_instructions(
     told: &mut String,
     breakpoints: &[InstructionBreakpoint],
 ) -> Result<(), AllocError> {
-    told.push_str("instructions")?;
     for breakpoint in breakpoints {
         match breakpoint.address {
-            Some(address) => write!(told, " {address}")?,
+            Some(address) => put_number(told, u32::from(address))?,
             None => told.push_str(" -")?,
         }
         put_options(told, &breakpoint.options, breakpoint.has_texts)?;
@@ -175,21 +125,34 @@ fn put_instructions(
 fn put_breakpoints(told: &mut String, command: &EditorCommand) -> Result<(), AllocError> {
     match command {
         EditorCommand::SetBreakpoints { path, lines } => {
-            put_lines(told, path.as_str(), lines.as_slice())
+            put(told, "lines")?;
+            put(told, path.as_str())?;
+            put_lines(told, lines.as_slice())
         }
         EditorCommand::SetFunctionBreakpoints(functions) => {
+            put(told, "functions")?;
             put_functions(told, functions.as_slice())
         }
-        EditorCommand::SetExceptionBreakpoints(filters) => put_filters(told, *filters),
-        EditorCommand::DataBreakpointInfo(query) => put_query(told, query),
-        EditorCommand::SetDataBreakpoints(breakpoints) => put_data(told, breakpoints.as_slice()),
+        EditorCommand::SetDataBreakpoints(breakpoints) => {
+            put(told, "data")?;
+            put_data(told, breakpoints.as_slice())
+        }
         EditorCommand::SetInstructionBreakpoints(breakpoints) => {
+            put(told, "instructions")?;
             put_instructions(told, breakpoints.as_slice())
         }
+        EditorCommand::DataBreakpointInfo(query) => {
+            put(told, "info")?;
+            put_number(told, query.scope)?;
+            put_number(told, query.count)?;
+            put_truth(told, query.is_address)?;
+            put(told, query.name.as_str())
+        }
         EditorCommand::BreakpointLocations { path, first, last } => {
-            let path = path.as_str();
-            write!(told, "locations {path} {first} {last}")?;
-            Ok(())
+            put(told, "locations")?;
+            put(told, path.as_str())?;
+            put_number(told, *first)?;
+            put_number(told, *last)
         }
         _ => Ok(()),
     }
@@ -201,34 +164,9 @@ fn put_place(
     address: u16,
     offset: SignedOffset,
 ) -> Result<(), AllocError> {
-    write!(told, "{word} {address}")?;
+    put(told, word)?;
+    put_number(told, u32::from(address))?;
     put_shift(told, offset)
-}
-
-fn put_written(told: &mut String, bytes: &[u8]) -> Result<(), AllocError> {
-    for byte in bytes {
-        write!(told, " {byte}")?;
-    }
-    Ok(())
-}
-
-fn context_word(context: EvaluateContext) -> &'static str {
-    match context {
-        EvaluateContext::Repl => "repl",
-        EvaluateContext::Watch => "watch",
-        EvaluateContext::Other => "other",
-    }
-}
-
-fn put_evaluation(
-    told: &mut String,
-    expression: &Text,
-    context: EvaluateContext,
-) -> Result<(), AllocError> {
-    let word = context_word(context);
-    let expression = expression.as_str();
-    write!(told, "evaluate {word} {expression}")?;
-    Ok(())
 }
 
 // Adds a command that has to do with memory.
@@ -240,7 +178,7 @@ fn put_memory(told: &mut String, command: &EditorCommand) -> Result<(), AllocErr
             count,
         } => {
             put_place(told, "read", *address, *offset)?;
-            write!(told, " {count}")?;
+            put_number(told, *count)
         }
         EditorCommand::WriteMemory {
             address,
@@ -248,7 +186,10 @@ fn put_memory(told: &mut String, command: &EditorCommand) -> Result<(), AllocErr
             bytes,
         } => {
             put_place(told, "write", *address, *offset)?;
-            put_written(told, bytes.as_slice())?;
+            for byte in bytes.as_slice() {
+                put_number(told, u32::from(*byte))?;
+            }
+            Ok(())
         }
         EditorCommand::Disassemble {
             address,
@@ -258,97 +199,115 @@ fn put_memory(told: &mut String, command: &EditorCommand) -> Result<(), AllocErr
         } => {
             put_place(told, "code", *address, *offset)?;
             put_shift(told, *instruction_offset)?;
-            write!(told, " {instruction_count}")?;
+            put_number(told, u32::from(*instruction_count))
         }
-        _ => {}
+        _ => put_breakpoints(told, command),
     }
-    Ok(())
 }
 
-// Adds a command that moves PC by no step forward.
-fn put_travel(told: &mut String, command: &EditorCommand) -> Result<(), AllocError> {
-    match command {
-        EditorCommand::StepBack(granularity) => told.push_str(granularity_word(*granularity)),
-        EditorCommand::ReverseContinue => told.push_str("back"),
-        EditorCommand::GotoTargets { path, line } => put_target_line(told, path.as_str(), *line),
-        EditorCommand::Goto { target } => {
-            write!(told, "goto {target}")?;
-            Ok(())
-        }
-        _ => Ok(()),
+fn granularity_word(granularity: Granularity) -> &'static str {
+    match granularity {
+        Granularity::Line => "back by line",
+        Granularity::Instruction => "back by instruction",
+    }
+}
+
+fn context_word(context: EvaluateContext) -> &'static str {
+    match context {
+        EvaluateContext::Repl => "repl",
+        EvaluateContext::Watch => "watch",
+        EvaluateContext::Other => "other",
     }
 }
 
 fn put_command(told: &mut String, command: &EditorCommand) -> Result<(), AllocError> {
     match command {
-        EditorCommand::Initialize(supported) => put_supported(told, *supported),
+        EditorCommand::Initialize(supported) => {
+            put(told, "initialize")?;
+            put_truth(told, supported.invalidated)?;
+            put_truth(told, supported.memory)
+        }
         EditorCommand::Launch(launch) => put_launch(told, launch),
-        EditorCommand::Restart => told.push_str("restart"),
-        EditorCommand::Terminate => told.push_str("terminate"),
-        EditorCommand::SetBreakpoints { .. }
-        | EditorCommand::SetFunctionBreakpoints(_)
-        | EditorCommand::SetExceptionBreakpoints(_)
-        | EditorCommand::DataBreakpointInfo(_)
-        | EditorCommand::SetDataBreakpoints(_)
-        | EditorCommand::SetInstructionBreakpoints(_)
-        | EditorCommand::BreakpointLocations { .. } => put_breakpoints(told, command),
-        EditorCommand::ExceptionInfo => told.push_str("exception"),
+        EditorCommand::Restart => put(told, "restart"),
+        EditorCommand::Terminate => put(told, "terminate"),
+        EditorCommand::ExceptionInfo => put(told, "exception"),
         EditorCommand::Evaluate {
             expression,
             context,
-        } => put_evaluation(told, expression, *context),
-        EditorCommand::LoadedSources => told.push_str("sources"),
-        EditorCommand::StepBack(_)
-        | EditorCommand::ReverseContinue
-        | EditorCommand::GotoTargets { .. }
-        | EditorCommand::Goto { .. } => put_travel(told, command),
+        } => {
+            put(told, "evaluate")?;
+            put(told, context_word(*context))?;
+            put(told, expression.as_str())
+        }
+        EditorCommand::SetExceptionBreakpoints(filters) => {
+            put(told, "exceptions")?;
+            put_truth(told, filters.undefined)?;
+            put_truth(told, filters.halt)
+        }
+        EditorCommand::LoadedSources => put(told, "sources"),
+        EditorCommand::StepBack(granularity) => put(told, granularity_word(*granularity)),
+        EditorCommand::ReverseContinue => put(told, "back"),
+        EditorCommand::GotoTargets { path, line } => {
+            put(told, "targets")?;
+            put(told, path.as_str())?;
+            put_number(told, *line)
+        }
+        EditorCommand::Goto { target } => {
+            put(told, "goto")?;
+            put_number(told, u32::from(*target))
+        }
         _ => put_memory(told, command),
     }
 }
 
 fn put_fault(told: &mut String, fault: &RequestFault) -> Result<(), AllocError> {
     match fault {
-        RequestFault::NotRequest => told.push_str("NotRequest"),
-        RequestFault::UnknownCommand => told.push_str("UnknownCommand"),
-        RequestFault::Arguments => told.push_str("Arguments"),
+        RequestFault::NotRequest => put(told, "NotRequest"),
+        RequestFault::UnknownCommand => put(told, "UnknownCommand"),
+        RequestFault::Arguments => put(told, "Arguments"),
         RequestFault::Argument(name) => {
-            let name = name.as_str();
-            write!(told, "Argument {name}")?;
-            Ok(())
+            put(told, "Argument")?;
+            put(told, name.as_str())
         }
     }
 }
 
-fn put_asked(told: &mut String, asked: &RequestContent) -> Result<(), AllocError> {
-    match asked {
-        RequestContent::Board(command) => {
-            told.push_str("board ")?;
-            told.push_str(command.name().as_str())
-        }
-        RequestContent::Editor(command) => put_command(told, command),
-        RequestContent::Faulty(fault) => put_fault(told, fault),
-    }
-}
-
+// What a request is: its number, its command, and what it asks for.
 fn told_of(alloc: Global, request: &EditorRequest) -> Result<String, AllocError> {
-    let seq = request.seq;
-    let command = request.command.as_str();
-    let mut told = format!(in alloc; "{seq} {command}: ")?;
-    put_asked(&mut told, &request.asked)?;
+    let mut told = String::new(alloc);
+    write!(told, "{} {}:", request.seq, request.command.as_str())?;
+    match &request.asked {
+        RequestContent::Board(command) => {
+            put(&mut told, "board")?;
+            put(&mut told, command.name().as_str())?;
+        }
+        RequestContent::Editor(command) => put_command(&mut told, command)?,
+        RequestContent::Faulty(fault) => put_fault(&mut told, fault)?,
+    }
     Ok(told)
 }
 
-fn is_told(alloc: Global, request: EditorRequest, wanted: &str) -> Result<bool, AllocError> {
-    let told = told_of(alloc, &request);
-    drop(request);
-    Ok(told?.as_str() == wanted)
+// The request that a text is read as.
+fn read(alloc: Global, text: &str) -> Result<EditorRequest, AllocError> {
+    match Value::from_str(alloc, text) {
+        Ok(value) => {
+            let request = read_editor_request(alloc, &value);
+            drop(value);
+            request
+        }
+        Err(_) => Ok(EditorRequest::unreadable(alloc)),
+    }
 }
 
-fn reads_as(alloc: Global, text: &str, wanted: &str) -> Result<bool, Fail> {
-    let value = Value::from_str(alloc, text)?;
-    let request = read_editor_request(alloc, &value);
-    drop(value);
-    Ok(is_told(alloc, request?, wanted)?)
+fn tell(alloc: Global, request: EditorRequest) -> Result<String, AllocError> {
+    let told = told_of(alloc, &request);
+    drop(request);
+    told
+}
+
+// What a whole value is read as.
+fn told_of_value(alloc: Global, text: &str) -> Result<String, AllocError> {
+    tell(alloc, read(alloc, text)?)
 }
 
 // Requests with the number 7, a line each: the command, its arguments, and what it is read as.
@@ -573,26 +532,64 @@ stackTrace null -> board stackTrace
 scopes null -> Arguments"#,
 );
 
-fn request(alloc: Global, command: &str, arguments: &str) -> Result<String, AllocError> {
+// The text of a request with the number 7: its command and its arguments.
+fn request(alloc: Global, asked: &str) -> Result<String, AllocError> {
+    let (command, arguments) = asked.split_once(" ").unwrap_or((asked, "null"));
     format!(in alloc;
         "{{\"seq\":7,\"type\":\"request\",\"command\":\"{command}\",\"arguments\":{arguments}}}"
     )
 }
 
-fn is_read(alloc: Global, row: &str) -> Result<bool, Fail> {
-    let (asked, wanted) = row.split_once(" -> ").unwrap_or((row, ""));
-    let (command, arguments) = asked.split_once(" ").unwrap_or((asked, ""));
-    let text = request(alloc, command, arguments)?;
-    let told = format!(in alloc; "7 {command}: {wanted}")?;
-    reads_as(alloc, text.as_str(), told.as_str())
+fn read_request(alloc: Global, asked: &str) -> Result<EditorRequest, AllocError> {
+    let text = request(alloc, asked)?;
+    let request = read(alloc, text.as_str());
+    drop(text);
+    request
+}
+
+// What a request is read as, behind its number and its command, if its file has this canonical path.
+fn told_with(alloc: Global, asked: &str, path: Option<Text>) -> Result<String, AllocError> {
+    match read_request(alloc, asked) {
+        Ok(request) => tell(alloc, request.with_canonical(path)),
+        Err(fault) => {
+            drop(path);
+            Err(fault)
+        }
+    }
+}
+
+fn told_of_request(alloc: Global, asked: &str) -> Result<String, AllocError> {
+    tell(alloc, read_request(alloc, asked)?)
+}
+
+// What a row must tell: the number, the command, and what the request is read as.
+fn wanted_of(alloc: Global, asked: &str, wanted: &str) -> Result<String, AllocError> {
+    let (command, _) = asked.split_once(" ").unwrap_or((asked, ""));
+    format!(in alloc; "7 {command}: {wanted}")
+}
+
+// A request is read so.
+fn expect_request(rt: &(impl Abort + AllocGlobal), asked: &str, wanted: &str) {
+    let wanted = made(rt, wanted_of(rt.alloc(), asked, wanted));
+    expect_made(
+        rt,
+        asked,
+        told_of_request(rt.alloc(), asked),
+        wanted.as_str(),
+    );
+    drop(wanted);
+}
+
+fn expect_row(rt: &(impl Abort + AllocGlobal), row: &str) {
+    let (asked, wanted) = parts(row);
+    expect_request(rt, asked, wanted);
 }
 
 #[test]
-fn reads_requests(rt: HostRuntime) -> Result<(), Fail> {
+fn reads_requests(rt: HostRuntime) {
     for row in REQUESTS.lines() {
-        assert!(rt; is_read(rt.alloc(), row)?, "{row}");
+        expect_row(&rt, row);
     }
-    Ok(())
 }
 
 // Breakpoints at instructions, a line each: what follows the name of the reference, and what it is read as.
@@ -635,117 +632,115 @@ const INSTRUCTIONS: &str = r#""0x010b" -> instructions 267
 256 -> Argument breakpoints
 null -> Argument breakpoints"#;
 
-fn is_instruction_read(alloc: Global, row: &str) -> Result<bool, Fail> {
-    let (one, wanted) = row.split_once(" -> ").unwrap_or((row, ""));
-    let row = format!(in alloc;
-        "setInstructionBreakpoints {{\"breakpoints\":[{{\"instructionReference\":{one}}}]}} -> {wanted}"
-    )?;
-    is_read(alloc, row.as_str())
+fn expect_instruction(rt: &(impl Abort + AllocGlobal), row: &str) {
+    let (one, wanted) = parts(row);
+    let frame = r#"setInstructionBreakpoints {"breakpoints":[{"instructionReference":%}]}"#;
+    let asked = made(rt, frame.replace(rt.alloc(), '%', one));
+    expect_request(rt, asked.as_str(), wanted);
+    drop(asked);
 }
 
 #[test]
-fn reads_breakpoints_at_instructions(rt: HostRuntime) -> Result<(), Fail> {
+fn reads_breakpoints_at_instructions(rt: HostRuntime) {
     for row in INSTRUCTIONS.lines() {
-        assert!(rt; is_instruction_read(rt.alloc(), row)?, "{row}");
+        expect_instruction(&rt, row);
     }
-    Ok(())
 }
 
-// A row that sets this many data breakpoints and one more.
-fn many_data(alloc: Global, count: usize, wanted: &str) -> Result<String, AllocError> {
-    let others = r#"{"dataId":"A"},"#.repeat(alloc, count)?;
-    format!(in alloc;
-        "setDataBreakpoints {{\"breakpoints\":[{others}{{\"dataId\":\"A\"}}]}} -> {wanted}"
-    )
+// A request with so many breakpoints for its % is read so, with this told as often.
+fn expect_many(
+    rt: &(impl Abort + AllocGlobal),
+    row: &str,
+    others: (&str, usize),
+    told: (&str, usize),
+) {
+    let others = made(rt, others.0.repeat(rt.alloc(), others.1));
+    let told = made(rt, told.0.repeat(rt.alloc(), told.1));
+    let begun = made(rt, row.replace(rt.alloc(), '%', others.as_str()));
+    let row = made(rt, begun.as_str().replace(rt.alloc(), '#', told.as_str()));
+    expect_row(rt, row.as_str());
+    drop(others);
+    drop(told);
+    drop(begun);
+    drop(row);
 }
+
+// Requests whose % stands for all but the last of 256 or 257 breakpoints. # stands for what is told of those.
+const DATA: &str = r##"setDataBreakpoints {"breakpoints":[%{"dataId":"A"}]} -> data#"##;
+
+const MORE_DATA: &str =
+    r#"setDataBreakpoints {"breakpoints":[%{"dataId":"A"}]} -> Argument breakpoints"#;
+
+const REFERENCES: &str = concat!(
+    r#"setInstructionBreakpoints {"breakpoints":[%{"instructionReference":"?"}]} -> "#,
+    r##"instructions# -"##,
+);
+
+const MORE_REFERENCES: &str = concat!(
+    r#"setInstructionBreakpoints {"breakpoints":[%{"instructionReference":"?"}]} -> "#,
+    r#"Argument breakpoints"#,
+);
 
 #[test]
-fn reads_256_data_breakpoints(rt: HostRuntime) -> Result<(), Fail> {
-    let told = " A".repeat(rt.alloc(), 256)?;
-    let wanted = format!(in rt.alloc(); "data{told}")?;
-    let row = many_data(rt.alloc(), 255, wanted.as_str())?;
-    assert!(rt; is_read(rt.alloc(), row.as_str())?);
-    let row = many_data(rt.alloc(), 256, "Argument breakpoints")?;
-    assert!(rt; is_read(rt.alloc(), row.as_str())?);
-    Ok(())
-}
-
-// A row that sets this many breakpoints at instructions and one more.
-fn many_instructions(alloc: Global, count: usize, wanted: &str) -> Result<String, AllocError> {
-    let others = r#"{"instructionReference":"0x0100"},"#.repeat(alloc, count)?;
-    format!(in alloc;
-        "setInstructionBreakpoints {{\"breakpoints\":[{others}\
-{{\"instructionReference\":\"?\"}}]}} -> {wanted}"
-    )
-}
-
-#[test]
-fn reads_256_breakpoints_at_instructions(rt: HostRuntime) -> Result<(), Fail> {
-    let told = " 256".repeat(rt.alloc(), 255)?;
-    let wanted = format!(in rt.alloc(); "instructions{told} -")?;
-    let row = many_instructions(rt.alloc(), 255, wanted.as_str())?;
-    assert!(rt; is_read(rt.alloc(), row.as_str())?);
-    let row = many_instructions(rt.alloc(), 256, "Argument breakpoints")?;
-    assert!(rt; is_read(rt.alloc(), row.as_str())?);
-    Ok(())
+fn reads_256_breakpoints(rt: HostRuntime) {
+    let data = r#"{"dataId":"A"},"#;
+    expect_many(&rt, DATA, (data, 255), (" A", 256));
+    expect_many(&rt, MORE_DATA, (data, 256), ("", 0));
+    let reference = r#"{"instructionReference":"0x0100"},"#;
+    expect_many(&rt, REFERENCES, (reference, 255), (" 256", 255));
+    expect_many(&rt, MORE_REFERENCES, (reference, 256), ("", 0));
 }
 
 // Requests with the number 7, a line each: the command and its arguments, the path that it names, if any, and
 // what it is with the canonical path `/b.asm`.
-const PATHS: &str =
-    r#"launch {"program":"a.asm"} -> a.asm -> launch a.asm false false true false 0 at /b.asm
-launch {"program":"/b.asm","switches":7} -> /b.asm -> launch /b.asm false false true false 7
-setBreakpoints {"source":{"path":"../a.asm"},"breakpoints":[{"line":3}]} -> ../a.asm -> lines /b.asm 3
-breakpointLocations {"source":{"path":"a.asm"},"line":5,"endLine":9} -> a.asm -> locations /b.asm 5 9
-gotoTargets {"source":{"path":""},"line":12} ->  -> targets /b.asm 12
-gotoTargets {"line":12} -> - -> Argument source
-evaluate {"expression":"a.asm"} -> - -> evaluate other a.asm
-setFunctionBreakpoints {"breakpoints":[{"name":"A"}]} -> - -> functions A
-loadedSources {} -> - -> sources
-threads null -> - -> board threads
-other null -> - -> UnknownCommand"#;
+const PATHS: &str = concat!(
+    r#"launch {"program":"a.asm"} -> a.asm -> 7 launch: launch a.asm false false true false 0 at /b.asm
+launch {"program":"/b.asm","switches":7} -> /b.asm -> 7 launch: launch /b.asm false false true false 7
+setBreakpoints {"source":{"path":"../a.asm"},"breakpoints":[{"line":3}]} -> ../a.asm -> "#,
+    r#"7 setBreakpoints: lines /b.asm 3
+breakpointLocations {"source":{"path":"a.asm"},"line":5,"endLine":9} -> a.asm -> "#,
+    r#"7 breakpointLocations: locations /b.asm 5 9
+gotoTargets {"source":{"path":""},"line":12} ->  -> 7 gotoTargets: targets /b.asm 12
+gotoTargets {"line":12} -> - -> 7 gotoTargets: Argument source
+evaluate {"expression":"a.asm"} -> - -> 7 evaluate: evaluate other a.asm
+setFunctionBreakpoints {"breakpoints":[{"name":"A"}]} -> - -> 7 setFunctionBreakpoints: functions A
+loadedSources {} -> - -> 7 loadedSources: sources
+threads null -> - -> 7 threads: board threads
+other null -> - -> 7 other: UnknownCommand"#,
+);
 
-fn read_row(alloc: Global, asked: &str) -> Result<EditorRequest, Fail> {
-    let (command, arguments) = asked.split_once(" ").unwrap_or((asked, ""));
-    let text = request(alloc, command, arguments)?;
-    let value = Value::from_str(alloc, text.as_str())?;
-    let read = read_editor_request(alloc, &value);
-    drop(value);
-    Ok(read?)
+fn path_of(alloc: Global, asked: &str) -> Result<String, AllocError> {
+    let request = read_request(alloc, asked)?;
+    let path = String::from_str(alloc, request.path().unwrap_or("-"));
+    drop(request);
+    path
 }
 
-fn names_path(alloc: Global, asked: &str, path: &str) -> Result<bool, Fail> {
-    let read = read_row(alloc, asked)?;
-    let is_same = read.path().unwrap_or("-") == path;
-    drop(read);
-    Ok(is_same)
-}
-
-fn is_canonical(alloc: Global, asked: &str, wanted: &str) -> Result<bool, Fail> {
+fn told_with_path(alloc: Global, asked: &str) -> Result<String, AllocError> {
     let path = Text::copy_of(alloc, "/b.asm")?;
-    let read = read_row(alloc, asked)?.with_canonical(Some(path));
-    let told = format!(in alloc; "7 {}: {wanted}", read.command.as_str());
-    Ok(is_told(alloc, read, told?.as_str())?)
+    told_with(alloc, asked, Some(path))
 }
 
-// Whether a request stays as it is if its file has no canonical path.
-fn is_kept(alloc: Global, asked: &str) -> Result<bool, Fail> {
-    let read = read_row(alloc, asked)?;
-    let told = told_of(alloc, &read);
-    let read = read.with_canonical(None);
-    Ok(is_told(alloc, read, told?.as_str())?)
+// A request stays as it is if its file has no canonical path.
+fn expect_kept(rt: &(impl Abort + AllocGlobal), asked: &str) {
+    let same = made(rt, told_of_request(rt.alloc(), asked));
+    expect_made(rt, asked, told_with(rt.alloc(), asked, None), same.as_str());
+    drop(same);
+}
+
+fn expect_paths(rt: &(impl Abort + AllocGlobal), row: &str) {
+    let (asked, found) = parts(row);
+    let (path, wanted) = parts(found);
+    expect_made(rt, asked, path_of(rt.alloc(), asked), path);
+    expect_made(rt, asked, told_with_path(rt.alloc(), asked), wanted);
+    expect_kept(rt, asked);
 }
 
 #[test]
-fn finds_paths(rt: HostRuntime) -> Result<(), Fail> {
+fn finds_paths(rt: HostRuntime) {
     for row in PATHS.lines() {
-        let (asked, found) = row.split_once(" -> ").unwrap_or((row, ""));
-        let (path, wanted) = found.split_once(" -> ").unwrap_or((found, ""));
-        assert!(rt; names_path(rt.alloc(), asked, path)?, "{row}");
-        assert!(rt; is_canonical(rt.alloc(), asked, wanted)?, "{row}");
-        assert!(rt; is_kept(rt.alloc(), asked)?, "{row}");
+        expect_paths(&rt, row);
     }
-    Ok(())
 }
 
 // Whole values, a line each, and what they are read as.
@@ -762,22 +757,16 @@ const VALUES: &str = concat!(
     r#"1 configurationDone: board configurationDone"#,
 );
 
-fn is_value_read(alloc: Global, row: &str) -> Result<bool, Fail> {
-    let (text, wanted) = row.split_once(" -> ").unwrap_or((row, ""));
-    reads_as(alloc, text, wanted)
+fn expect_value(rt: &(impl Abort + AllocGlobal), row: &str) {
+    let (text, wanted) = parts(row);
+    expect_made(rt, text, told_of_value(rt.alloc(), text), wanted);
 }
 
 #[test]
-fn reads_values(rt: HostRuntime) -> Result<(), Fail> {
+fn reads_values(rt: HostRuntime) {
     for row in VALUES.lines() {
-        assert!(rt; is_value_read(rt.alloc(), row)?, "{row}");
+        expect_value(&rt, row);
     }
-    Ok(())
-}
-
-#[test]
-fn knows_what_is_no_json(rt: HostRuntime) -> Result<(), AllocError> {
     let request = EditorRequest::unreadable(rt.alloc());
-    assert!(rt; is_told(rt.alloc(), request, "0 : NotRequest")?);
-    Ok(())
+    expect_made(&rt, "no JSON", tell(rt.alloc(), request), "0 : NotRequest");
 }

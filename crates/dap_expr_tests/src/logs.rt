@@ -1,9 +1,30 @@
 //! Texts and faults of log messages.
-
-use crate::valued::{lab_with_program, put_repeated};
+use crate::checks::{expect, nested, parts};
 use dap_log::message::LogMessage;
 use lab_core::lab::Lab;
-use std::alloc::{AllocError, Global};
+use std::alloc::{AllocError, AllocGlobal, Global};
+use std::process::Abort;
+
+fn text_of(alloc: Global, lab: &Lab, message: &LogMessage) -> Result<String, AllocError> {
+    Ok(message.text(alloc, lab)?.into_string())
+}
+
+// The text of a message, or the fault of a text that is none.
+fn told_of(alloc: Global, lab: &Lab, text: &str) -> Result<String, AllocError> {
+    match LogMessage::parse(alloc, text) {
+        Ok(message) => {
+            let told = text_of(alloc, lab, &message);
+            drop(message);
+            told
+        }
+        Err(fault) => format!(in alloc; "{fault}"),
+    }
+}
+
+fn expect_text(rt: &(impl Abort + AllocGlobal), lab: &Lab, row: &str) {
+    let (text, wanted) = parts(row);
+    expect(rt, text, told_of(rt.alloc(), lab, text), wanted);
+}
 
 // A message, and its text or its fault. B is 0, HL and SP are 010DH, where 41H and 56H stand, and COUNT is 5.
 const ROWS: &str = "\
@@ -65,103 +86,96 @@ a {}^4 Operands
 {1 2} {^2 Operands
 ";
 
-fn put_told(alloc: Global, lab: &Lab, text: &str, told: &mut String) -> Result<(), AllocError> {
-    match LogMessage::parse(alloc, text) {
-        Ok(message) => told.push_str(message.text(alloc, lab)?.as_str()),
-        Err(fault) => write!(told, "{fault}"),
+/// These are the texts and faults of log messages.
+pub fn expect_texts(rt: &(impl Abort + AllocGlobal), lab: &Lab) {
+    for row in ROWS.lines() {
+        expect_text(rt, lab, row);
     }
 }
 
-fn put_wrong(alloc: Global, lab: &Lab, rows: &str, wrong: &mut String) -> Result<(), AllocError> {
-    for row in rows.lines() {
-        if let Some((text, wanted)) = row.split_once("^") {
-            let mut told = String::new(alloc);
-            put_told(alloc, lab, text, &mut told)?;
-            if told.as_str() != wanted {
-                write!(wrong, "{row}: {told}\n")?;
-            }
+// The text of the middle of three texts with the others so often before and behind it, or its fault.
+fn told_of_nested(
+    alloc: Global,
+    lab: &Lab,
+    texts: [&str; 3],
+    count: usize,
+) -> Result<String, AllocError> {
+    let text = nested(alloc, texts, count)?;
+    let told = told_of(alloc, lab, text.as_str());
+    drop(text);
+    told
+}
+
+// It has a text of this length.
+fn expect_length(
+    rt: &(impl Abort + AllocGlobal),
+    lab: &Lab,
+    texts: [&str; 3],
+    count: usize,
+    wanted: usize,
+) {
+    match told_of_nested(rt.alloc(), lab, texts, count) {
+        Ok(told) => {
+            assert!(rt; told.len() == wanted, "{told}");
+            drop(told);
         }
+        Err(_) => rt.panic("there is no memory"),
     }
-    Ok(())
 }
 
-// A text, how often it stands before another one, that one, and the length of the message's text or the
-// fault.
-const LIMITS: [(&str, usize, &str, &str); 13] = [
-    ("a", 1024, "", "1024"),
-    ("a", 1025, "", "1 TooLong"),
-    ("é", 512, "", "1024"),
-    ("é", 512, "a", "1 TooLong"),
-    ("{{", 512, "", "512"),
-    ("}}", 512, "", "512"),
-    ("a", 1023, "{", "1024 OpenBrace"),
-    ("a", 1024, "{", "1 TooLong"),
-    ("a", 1021, "{5}", "1022"),
-    ("a", 1021, "{5 }", "1 TooLong"),
-    ("a", 1021, "{+}", "1023 Operands"),
-    ("{5}", 341, "", "341"),
-    ("{-1}", 256, "", "1280"),
-];
+// It has this fault.
+fn expect_fault(
+    rt: &(impl Abort + AllocGlobal),
+    lab: &Lab,
+    texts: [&str; 3],
+    count: usize,
+    wanted: &str,
+) {
+    expect(
+        rt,
+        wanted,
+        told_of_nested(rt.alloc(), lab, texts, count),
+        wanted,
+    );
+}
 
-fn put_length(alloc: Global, lab: &Lab, text: &str, told: &mut String) -> Result<(), AllocError> {
-    match LogMessage::parse(alloc, text) {
+/// Log messages have no more characters.
+pub fn expect_lengths(rt: &(impl Abort + AllocGlobal), lab: &Lab) {
+    expect_length(rt, lab, ["a", "", ""], 1024, 1024);
+    expect_fault(rt, lab, ["a", "", ""], 1025, "1 TooLong");
+    expect_length(rt, lab, ["é", "", ""], 512, 1024);
+    expect_fault(rt, lab, ["é", "a", ""], 512, "1 TooLong");
+    expect_length(rt, lab, ["{{", "", ""], 512, 512);
+    expect_length(rt, lab, ["}}", "", ""], 512, 512);
+    expect_fault(rt, lab, ["a", "{", ""], 1023, "1024 OpenBrace");
+    expect_fault(rt, lab, ["a", "{", ""], 1024, "1 TooLong");
+    expect_length(rt, lab, ["a", "{5}", ""], 1021, 1022);
+    expect_fault(rt, lab, ["a", "{5 }", ""], 1021, "1 TooLong");
+    expect_fault(rt, lab, ["a", "{+}", ""], 1021, "1023 Operands");
+    expect_length(rt, lab, ["{5}", "", ""], 341, 341);
+    expect_length(rt, lab, ["{-1}", "", ""], 256, 1280);
+}
+
+// Whether a message names what the program doesn't have.
+fn expect_undefined(rt: &(impl Abort + AllocGlobal), lab: &Lab, text: &str, wanted: bool) {
+    match LogMessage::parse(rt.alloc(), text) {
         Ok(message) => {
-            let length = message.text(alloc, lab)?.as_str().len();
-            write!(told, "{length}")
-        }
-        Err(fault) => write!(told, "{fault}"),
-    }
-}
-
-fn put_wrong_limits(alloc: Global, lab: &Lab, wrong: &mut String) -> Result<(), AllocError> {
-    for (text, count, last, wanted) in &LIMITS {
-        let mut all = String::new(alloc);
-        put_repeated(text, *count, &mut all)?;
-        all.push_str(last)?;
-        let mut told = String::new(alloc);
-        put_length(alloc, lab, all.as_str(), &mut told)?;
-        if told.as_str() != *wanted {
-            write!(wrong, "{count} of {text}, {last}: {told}\n")?;
-        }
-    }
-    Ok(())
-}
-
-// Messages that name what the program doesn't have, and others.
-const UNDEFINED: [(&str, bool); 6] = [
-    ("", false),
-    ("NOWHERE {{NOWHERE}}", false),
-    ("{1/0} {count}", false),
-    ("{NOWHERE}", true),
-    ("{1/0} {NOWHERE:x}", true),
-    ("{NOWHERE} {1/0} {count}", true),
-];
-
-fn put_wrong_names(alloc: Global, lab: &Lab, wrong: &mut String) -> Result<(), AllocError> {
-    for (text, wanted) in &UNDEFINED {
-        if let Ok(message) = LogMessage::parse(alloc, text) {
-            if message.is_undefined(lab) != *wanted {
-                write!(wrong, "{text}: it isn't {wanted}\n")?;
+            let is_undefined = message.is_undefined(lab);
+            drop(message);
+            if is_undefined != wanted {
+                rt.panic(text)
             }
-        } else {
-            write!(wrong, "{text}: no message\n")?;
         }
+        Err(_) => rt.panic(text),
     }
-    Ok(())
 }
 
-fn wrong_logs(alloc: Global) -> Result<String, AllocError> {
-    let mut wrong = String::new(alloc);
-    let lab = lab_with_program(alloc, &mut wrong)?;
-    put_wrong(alloc, &lab, ROWS, &mut wrong)?;
-    put_wrong_limits(alloc, &lab, &mut wrong)?;
-    put_wrong_names(alloc, &lab, &mut wrong)?;
-    Ok(wrong)
-}
-
-#[test]
-fn log_messages_have_texts(rt: HostRuntime) -> Result<(), AllocError> {
-    let wrong = wrong_logs(rt.alloc())?;
-    assert!(rt; wrong.is_empty(), "{wrong}");
-    Ok(())
+/// These messages name what the program doesn't have, and others don't.
+pub fn expect_names(rt: &(impl Abort + AllocGlobal), lab: &Lab) {
+    expect_undefined(rt, lab, "", false);
+    expect_undefined(rt, lab, "NOWHERE {{NOWHERE}}", false);
+    expect_undefined(rt, lab, "{1/0} {count}", false);
+    expect_undefined(rt, lab, "{NOWHERE}", true);
+    expect_undefined(rt, lab, "{1/0} {NOWHERE:x}", true);
+    expect_undefined(rt, lab, "{NOWHERE} {1/0} {count}", true);
 }

@@ -1,61 +1,32 @@
 //! Values and faults of expressions.
-ghost use Rattle.std.specs.Prelude.{◌≤◌};
-
+use crate::checks::{expect, nested, parts};
 use dap_expr::expression::Expression;
-use lab_core::event::Event;
 use lab_core::lab::Lab;
-use lab_test_kit::script::{is_done, load_text};
-use std::alloc::{AllocError, Global};
+use std::alloc::{AllocError, AllocGlobal, Global};
+use std::process::Abort;
 
-// The statements stand at 0100, 0102, 0105, 0108, 010B and 010C.
-const PROGRAM: &str = "\
-COUNT  EQU 5
-BC     EQU 7
-WORD   EQU 9
-       ORG 100H
-BEGIN: MVI A,12H
-       LXI H,TABLE
-       LXI SP,TABLE
-       LXI D,0FFFFH
-       ADD M
-       HLT
-TABLE: DB 41H,56H,34H,12H
-       END BEGIN
-";
-
-// Whether the program is loaded, started at 0100, and has made so many steps.
-fn put_program(alloc: Global, lab: &mut Lab, text: &str, steps: u16) -> Result<bool, AllocError>
-    requires some { 1 ≤ steps }
-    requires few { steps ≤ 4096 }
-{
-    let is_loaded = load_text(alloc, lab, "program", text)?;
-    let is_started = is_done(lab, &Event::Start(0x100));
-    let is_stepped = is_done(lab, &Event::Slice(steps));
-    Ok(is_loaded && is_started && is_stepped)
-}
-
-/// A lab with a program that was started at 0100 and made so many steps. Adds a line to what is wrong if it
-/// wasn't.
-pub(crate) fn lab_after(
-    alloc: Global,
-    text: &str,
-    steps: u16,
-    wrong: &mut String,
-) -> Result<Lab, AllocError>
-    requires some { 1 ≤ steps }
-    requires few { steps ≤ 4096 }
-{
-    let mut lab = Lab::new(alloc)?;
-    if !put_program(alloc, &mut lab, text, steps)? {
-        wrong.push_str("the program isn't stopped")?;
+fn value_of(alloc: Global, lab: &Lab, expression: &Expression) -> Result<String, AllocError> {
+    match expression.value(lab) {
+        Ok(value) => format!(in alloc; "{value:04X}"),
+        Err(fault) => format!(in alloc; "{fault}"),
     }
-    Ok(lab)
 }
 
-/// A lab with the program after five steps: A is 53H, HL and SP are 010DH, DE is FFFFH, PC is 010CH; P is
-/// set, and no other flag.
-pub(crate) fn lab_with_program(alloc: Global, wrong: &mut String) -> Result<Lab, AllocError> {
-    lab_after(alloc, PROGRAM, 5, wrong)
+// The value of an expression in hexadecimal, or its fault.
+fn told_of(alloc: Global, lab: &Lab, text: &str) -> Result<String, AllocError> {
+    match Expression::parse(alloc, text) {
+        Ok(expression) => {
+            let told = value_of(alloc, lab, &expression);
+            drop(expression);
+            told
+        }
+        Err(fault) => format!(in alloc; "{fault}"),
+    }
+}
+
+fn expect_value(rt: &(impl Abort + AllocGlobal), lab: &Lab, row: &str) {
+    let (text, wanted) = parts(row);
+    expect(rt, text, told_of(rt.alloc(), lab, text), wanted);
 }
 
 // An expression, and its value in hexadecimal or its fault. The values are worked out by the manual's rules.
@@ -217,77 +188,51 @@ MOV^1 Name
 5+'A^3 Text
 ";
 
-fn put_told(alloc: Global, lab: &Lab, text: &str, told: &mut String) -> Result<(), AllocError> {
-    match Expression::parse(alloc, text) {
-        Ok(expression) => match expression.value(lab) {
-            Ok(value) => write!(told, "{value:04X}"),
-            Err(fault) => write!(told, "{fault}"),
-        },
-        Err(fault) => write!(told, "{fault}"),
+/// These are the values and faults of expressions.
+pub fn expect_values(rt: &(impl Abort + AllocGlobal), lab: &Lab) {
+    for row in ROWS.lines() {
+        expect_value(rt, lab, row);
     }
 }
 
-fn put_wrong(alloc: Global, lab: &Lab, rows: &str, wrong: &mut String) -> Result<(), AllocError> {
-    for row in rows.lines() {
-        if let Some((text, wanted)) = row.split_once("^") {
-            let mut told = String::new(alloc);
-            put_told(alloc, lab, text, &mut told)?;
-            if told.as_str() != wanted {
-                write!(wrong, "{row}: {told}\n")?;
-            }
-        }
-    }
-    Ok(())
+fn told_of_nested(
+    alloc: Global,
+    lab: &Lab,
+    texts: [&str; 3],
+    count: usize,
+) -> Result<String, AllocError> {
+    let text = nested(alloc, texts, count)?;
+    let told = told_of(alloc, lab, text.as_str());
+    drop(text);
+    told
 }
 
-// A text, how often it stands before another one, that one, what stands as often after it, and the value in
-// hexadecimal or the fault.
-const LIMITS: [(&str, usize, &str, &str, &str); 10] = [
-    ("[", 16, "5", "]", "0000"),
-    ("[", 17, "5", "]", "1 Nesting"),
-    ("word[", 16, "HL", "]", "0000"),
-    ("(", 63, "5", ")", "0005"),
-    ("(", 64, "5", ")", "1 Nesting"),
-    ("-", 63, "5", "", "FFFB"),
-    ("-", 64, "5", "", "1 Nesting"),
-    ("!", 1023, "5", "", "0000"),
-    (" ", 1023, "5", "", "0005"),
-    (" ", 1024, "5", "", "1 TooLong"),
-];
-
-pub(crate) fn put_repeated(text: &str, count: usize, all: &mut String) -> Result<(), AllocError> {
-    for _ in 0..count {
-        all.push_str(text)?;
-    }
-    Ok(())
+// The middle of three texts with the others so often before and behind it has this value or fault.
+fn expect_nested(
+    rt: &(impl Abort + AllocGlobal),
+    lab: &Lab,
+    texts: [&str; 3],
+    count: usize,
+    wanted: &str,
+) {
+    expect(
+        rt,
+        wanted,
+        told_of_nested(rt.alloc(), lab, texts, count),
+        wanted,
+    );
 }
 
-fn put_wrong_limits(alloc: Global, lab: &Lab, wrong: &mut String) -> Result<(), AllocError> {
-    for (before, count, text, after, wanted) in &LIMITS {
-        let mut all = String::new(alloc);
-        put_repeated(before, *count, &mut all)?;
-        all.push_str(text)?;
-        put_repeated(after, *count, &mut all)?;
-        let mut told = String::new(alloc);
-        put_told(alloc, lab, all.as_str(), &mut told)?;
-        if told.as_str() != *wanted {
-            write!(wrong, "{count} of {before}: {told}\n")?;
-        }
-    }
-    Ok(())
-}
-
-fn wrong_values(alloc: Global) -> Result<String, AllocError> {
-    let mut wrong = String::new(alloc);
-    let lab = lab_with_program(alloc, &mut wrong)?;
-    put_wrong(alloc, &lab, ROWS, &mut wrong)?;
-    put_wrong_limits(alloc, &lab, &mut wrong)?;
-    Ok(wrong)
-}
-
-#[test]
-fn expressions_have_values(rt: HostRuntime) -> Result<(), AllocError> {
-    let wrong = wrong_values(rt.alloc())?;
-    assert!(rt; wrong.is_empty(), "{wrong}");
-    Ok(())
+/// Expressions have no more parts, and no more characters.
+pub fn expect_limits(rt: &(impl Abort + AllocGlobal), lab: &Lab) {
+    expect_nested(rt, lab, ["[", "5", "]"], 16, "0000");
+    expect_nested(rt, lab, ["[", "5", "]"], 17, "1 Nesting");
+    expect_nested(rt, lab, ["word[", "HL", "]"], 16, "0000");
+    expect_nested(rt, lab, ["(", "5", ")"], 63, "0005");
+    expect_nested(rt, lab, ["(", "5", ")"], 64, "1 Nesting");
+    expect_nested(rt, lab, ["-", "5", ""], 63, "FFFB");
+    expect_nested(rt, lab, ["-", "5", ""], 64, "1 Nesting");
+    expect_nested(rt, lab, ["!", "5", ""], 1023, "0000");
+    expect_nested(rt, lab, [" ", "5", ""], 1023, "0005");
+    expect_nested(rt, lab, [" ", "5", ""], 1024, "1 TooLong");
 }

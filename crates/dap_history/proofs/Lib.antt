@@ -3,5 +3,3 @@ pub mod RunLemmas
 pub mod ReplayLemmas
 pub mod HistoryLemmas
 pub mod SpacingLemmas
-pub mod PointLemmas
-pub mod SearchLemmas

@@ -2,4 +2,3 @@ pub mod Logs
 pub mod Runs
 pub mod Spacing
 pub mod Histories
-pub mod Searches

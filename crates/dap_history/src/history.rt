@@ -140,7 +140,7 @@ impl History {
 
     /// Where a search begins that is to see the `width` counts below this one. A wide one begins at a saved
     /// moment, or at the start, to which the run goes at once.
-    pub(crate) fn low_end(&self, count: u64, width: u64) -> u64
+    pub fn low_end(&self, count: u64, width: u64) -> u64
         ensures { result ≤ count }
     {
         let low = count.saturating_sub(width);
@@ -198,7 +198,7 @@ impl History {
     }
 
     /// Does what `go_to` does, but leaves the run running, with no debugger.
-    pub(crate) fn run_to(&mut self, lab: &mut Lab, count: u64) -> Result<(), ReplayFault>
+    pub fn run_to(&mut self, lab: &mut Lab, count: u64) -> Result<(), ReplayFault>
         ensures ok { ForEachRun self.old lab.old (λ start now. OnOk result
             (RunsDetached (board_at start self.old.log count) now lab.new)) }
         ensures rest { ForEachRun self.old lab.old (KeepsRestAndHistory self.old self.new lab.new) }

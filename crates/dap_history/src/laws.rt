@@ -2,12 +2,10 @@
 ghost use Rattle.std.specs.Prelude.{◌≡◌, ◌≤◌, ◌<◌, ◌-◌, ◌*◌, ◌^◌, ℕ, List, [], ◌++◌, IsTrue};
 ghost use Rattle.lab_core.specs.Board.{Board};
 ghost use Rattle.lab_core.specs.Moments.{put_back, after_hold};
-ghost use Rattle.dap_slice.specs.declared.conditions.ConditionalBreakpoint.{ConditionalBreakpoint};
 ghost use Rattle.dap_history.specs.declared.input.Recorded.{Recorded};
 ghost use Rattle.dap_history.specs.Logs.{Ascends, latest, later_than};
 ghost use Rattle.dap_history.specs.Spacing.{stays_in};
 ghost use Rattle.dap_history.specs.Runs.{at_from, board_at, after_rewind};
-ghost use Rattle.dap_history.specs.Searches.{goal_below, breakpoint_target, statement_target};
 
 /// A run made again from one of its boards, on another board, comes to the board that it had: all of the run
 /// is as it was, and all else as on the other board.
@@ -45,18 +43,4 @@ pub fn back_and_forth()
     ensures { (start now : Board) (log : List Recorded) (m n : ℕ)
         → after_rewind (board_at start log n) (after_rewind (board_at start log m) now)
         ≡ after_rewind (board_at start log n) now }
-{}
-
-/// Breakpoints with conditions only add counts at which a search ends: with them it leads no farther back.
-pub fn conditions_only_add()
-    ensures { (points : List ConditionalBreakpoint) (start now : Board) (log : List Recorded) (n : ℕ)
-        → goal_below (breakpoint_target []) start log now n
-        ≤ goal_below (breakpoint_target points) start log now n }
-{}
-
-/// With such breakpoints a search for a statement leads to the same count.
-pub fn statements_ignore_conditions()
-    ensures { (points : List ConditionalBreakpoint) (start now : Board) (log : List Recorded) (depth n : ℕ)
-        → goal_below (statement_target depth points) start log now n
-        ≡ goal_below (statement_target depth []) start log now n }
 {}

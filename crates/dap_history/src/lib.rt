@@ -6,12 +6,9 @@
 #![tactic(auto)]
 
 pub mod fault;
-pub mod goal;
 pub mod history;
 pub mod input;
 pub mod laws;
 pub mod log;
 pub mod replay;
 pub mod saved;
-pub mod scan;
-pub mod search;

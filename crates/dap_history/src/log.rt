@@ -62,7 +62,7 @@ fn keep_up_to(entries: &mut Vec<Recorded>, count: u64)
 }
 
 /// Of inputs in order, those that came after more than `count` steps.
-pub(crate) fn later(entries: &[Recorded], count: u64) -> &[Recorded]
+pub fn later(entries: &[Recorded], count: u64) -> &[Recorded]
     requires { Ascends 0 entries.now }
     ensures { result.now ≡ later_than count entries.now }
 {

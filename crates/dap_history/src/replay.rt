@@ -62,7 +62,7 @@ fn slice(lab: &mut Lab, n: u16) -> Result<SliceOutcome, ReplayFault>
 }
 
 /// Lets a run go on that has just stopped or ended, with no debugger attached.
-pub(crate) fn go_on(lab: &mut Lab) -> Result<(), AllocError>
+pub fn go_on(lab: &mut Lab) -> Result<(), AllocError>
     ensures ok { (b : Board) → RepresentsBoard lab.old b
         → OnOk result (RepresentsBoard lab.new (put_back b b)) }
     ensures err { OnErr result (lab.new ≡ lab.old) }

@@ -3,11 +3,14 @@ use crate::inputs::typed;
 use crate::play::Live;
 use dap_history::fault::LogFault;
 use dap_history::laws::{
-    back_and_forth, conditions_only_add, log_splits, moments_are_near, run_goes_on,
-    run_is_made_again,
+    back_and_forth, log_splits, moments_are_near, run_goes_on, run_is_made_again,
 };
 use dap_history::log::Log;
 use dap_history::saved::{UNIT, stays};
+use dap_search::laws::{
+    conditions_only_add, hits_are_counted_in_parts, hits_are_taken_back, slices_count_the_same,
+    statements_ignore_conditions,
+};
 use std::alloc::AllocError;
 
 /// Appends an input that types so many bytes. What came after this count is forgotten. Gives whether it is
@@ -63,4 +66,8 @@ fn laws_can_be_called() {
     moments_are_near();
     back_and_forth();
     conditions_only_add();
+    statements_ignore_conditions();
+    hits_are_counted_in_parts();
+    slices_count_the_same();
+    hits_are_taken_back();
 }

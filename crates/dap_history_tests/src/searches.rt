@@ -5,8 +5,8 @@ use crate::seen::{Notes, Seen, see};
 use asm_syntax::fault::LineFault;
 use dap_expr::expression::Expression;
 use dap_history::fault::ReplayFault;
-use dap_history::goal::Goal;
-use dap_history::search::Search;
+use dap_search::goal::Goal;
+use dap_search::search::Search;
 use dap_slice::conditions::{ConditionalBreakpoint, Trigger};
 use dap_slice::hits::{HitCondition, Hits};
 use lab_test_kit::script::set_breakpoints;
@@ -84,7 +84,7 @@ fn search_of(live: &mut Live, goal: Goal) -> Result<Search, AllocError> {
 fn finish(live: &mut Live, search: &mut Search) -> Result<Option<(u64, u64)>, AllocError> {
     let seen = see(&live.lab);
     for pauses in 0..1000 {
-        match search.go_on(&mut live.history, &mut live.lab, &live.points) {
+        match search.go_on(&mut live.history, &mut live.lab, &mut live.points) {
             Ok(Some(count)) => return Ok(Some((count, pauses))),
             Ok(None) => {
                 if see(&live.lab) != seen {
@@ -121,6 +121,7 @@ fn is_passed(seen: Seen, goal: Goal) -> bool {
     match goal {
         Goal::Breakpoint => seen.pc == ADDRESS,
         Goal::Statement { depth } => seen.is_first && seen.depth <= depth,
+        Goal::Count(count) => seen.count == count,
     }
 }
 

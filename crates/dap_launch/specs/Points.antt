@@ -15,9 +15,8 @@ use Rattle.dap_points.specs.Placed.{unlaunched_instructions}
 use Rattle.dap_points.specs.Changes.{changed_points}
 use Rattle.dap_data.specs.Points.{points_on}
 use Rattle.dap_data.specs.Instructions.{instructions_on}
-use Rattle.dap_program.specs.Breakpoints.{lines_on}
+use Rattle.dap_program.specs.Breakpoints.{lines_on, labels_on}
 use Rattle.dap_launch.specs.declared.program.Program.{Program}
-use Rattle.dap_launch.specs.Programs.{labels_for, program_labels}
 
 -- those of the source with this number, beside a program
 abbrev pub points_for : Program → Board → ℕ → SourceLines → List PlacedBreakpoint
@@ -30,10 +29,9 @@ points_where None b number l = other_points NotLaunched number 0 (take 256 l.lin
 points_where (Some p) b number l = points_for p b number l
 
 -- those at labels
-abbrev pub labels_where : Option Program → WantedBreakpointsState → List FunctionBreakpoint → Board
-    → List PlacedBreakpoint
-labels_where None kept functions b = unlaunched_labels 0 functions
-labels_where (Some p) kept functions b = labels_for p kept functions b
+abbrev pub labels_where : Option Program → List FunctionBreakpoint → Board → List PlacedBreakpoint
+labels_where None functions b = unlaunched_labels 0 functions
+labels_where (Some p) functions b = labels_on b functions
 
 -- those on data
 abbrev pub data_where : Option Program → List DataBreakpoint → Board → List PlacedBreakpoint
@@ -67,6 +65,7 @@ changed_off_lines before old b kept =
 abbrev pub all_changed : Option Program → Board → Program → WantedBreakpointsState → Board
     → List PlacedBreakpoint
 all_changed before old p kept b =
+    let functions = take 256 kept.functions in
     changed_from before old p b 1 kept.lists
-    ++ (changed_points (labels_where before kept (take 256 kept.functions) old) (program_labels p kept b)
+    ++ (changed_points (labels_where before functions old) (labels_on b functions)
     ++ changed_off_lines before old b kept)

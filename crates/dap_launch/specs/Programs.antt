@@ -1,6 +1,7 @@
 -- A launched program (Debug Adapter Protocol, `launch` and `restart`): its breakpoints, and how it begins.
 use Rattle.std.specs.Prelude.{◌≡◌, ◌≤◌, ℕ, List, [], ◌∷◌, ◌++◌, length, take, Bool, ◌&&◌, if◌then◌else◌}
-use Rattle.std.specs.Prelude.{Result, IfOk}
+use Rattle.std.specs.Prelude.{Option, Some, None, Result, IfOk}
+use Rattle.std.specs.Str.{bytes_eq}
 use Rattle.std.specs.declared.alloc.AllocError.{AllocError}
 use Rattle.base_text.specs.Bytes.{Text}
 use Rattle.base_text.specs.Latin.{latin_bytes}
@@ -21,7 +22,8 @@ use Rattle.dap_program.specs.declared.opening.LoadReason.{LoadReason}
 use Rattle.dap_program.specs.declared.opening.LoadReason.TheVariants.{Launch, Restart}
 use Rattle.dap_program.specs.Boards.{after, begin_run}
 use Rattle.dap_slice.specs.declared.conditions.ConditionalBreakpoint.{ConditionalBreakpoint}
-use Rattle.dap_program.specs.Breakpoints.{lines_on, board_armed_at, labels_behind}
+use Rattle.dap_points.specs.Boards.{board_lines}
+use Rattle.dap_program.specs.Breakpoints.{lines_on, board_armed_at, labels_on}
 use Rattle.dap_data.specs.Points.{watches_on}
 use Rattle.dap_data.specs.Instructions.{breaks_on}
 use Rattle.dap_lines.specs.Conditions.{conditional_points}
@@ -34,6 +36,11 @@ use Rattle.dap_launch.specs.Lives.{in_phase}
 -- a program that was loaded, before it begins
 abbrev pub program_of : LaunchOf → ℕ → Program
 program_of l start = record { launch = l; start = start; phase = phase.Loaded }
+
+-- the program, if it is the file with this path
+abbrev pub program_at : Text → Option Program → Option Program
+program_at path None = None
+program_at path (Some p) = if bytes_eq p.launch.canonical path then Some p else None
 
 -- ---- how it begins
 
@@ -67,23 +74,17 @@ begun_follow cause l = if pauses l then Stopped Entry else going_follow cause
 
 -- ---- its breakpoints, on the board that it is loaded on
 
-abbrev pub program_lines : Program → WantedBreakpointsState → Board → List PlacedBreakpoint
-program_lines p kept b =
-    let path = p.launch.canonical in lines_on b (number_of path kept.lists) (lines_at path kept.lists)
+-- on these lines, of the source with this number, and at these labels; and those at which the board stops
+abbrev pub placed_at : Board → ℕ → List LineBreakpoint → List FunctionBreakpoint → PlacedLists
+placed_at b number lines functions =
+    let on_lines = lines_on b number lines in
+    let at_labels = labels_on b functions in
+    record { lines = on_lines; labels = at_labels; on_board = board_lines on_lines at_labels }
 
--- at these labels
-abbrev pub labels_for : Program → WantedBreakpointsState → List FunctionBreakpoint → Board
-    → List PlacedBreakpoint
-labels_for p kept functions b = labels_behind b (program_lines p kept b) functions
-
-abbrev pub program_labels : Program → WantedBreakpointsState → Board → List PlacedBreakpoint
-program_labels p kept b = labels_for p kept (take 256 kept.functions) b
-
--- its board, which stops on these lines, of the source with this number, and at these labels
+-- its board, which stops there
 abbrev pub armed_with : Program → ℕ → List LineBreakpoint → List FunctionBreakpoint → Board → Board
 armed_with p number lines functions b =
-    let on_lines = lines_on b number lines in
-    board_armed_at p.launch.program on_lines (labels_behind b on_lines functions) b
+    board_armed_at p.launch.program (placed_at b number lines functions).on_board b
 
 -- ---- what is wanted of it
 
@@ -129,27 +130,22 @@ program_board p kept b = armed_for p (program_lists p kept) b
 
 -- where they are on the board
 abbrev pub placed_on : Board → ProgramLists → PlacedLists
-placed_on b w =
-    let on_lines = lines_on b w.number w.lines in
-    record { lines = on_lines; labels = labels_behind b on_lines w.functions }
+placed_on b w = placed_at b w.number w.lines w.functions
 
 -- those on data and at instructions; a run without a debugger has none
 abbrev pub off_lines : Program → ProgramLists → Board → List ConditionalBreakpoint
 off_lines p w b =
     if p.launch.is_debugged then watches_on b w.on_data ++ breaks_on b w.instructions else []
 
--- those that have options; a run without a debugger has none
-abbrev pub conditional_in : Program → Board → List PlacedBreakpoint → List PlacedBreakpoint
-    → List ConditionalBreakpoint
-conditional_in p b lines labels =
-    let path = p.launch.program in
-    if p.launch.is_debugged then conditional_points path b lines ++ conditional_points path b labels else []
+-- those on lines and at labels; a run without a debugger has none
+abbrev pub conditional_in : Program → Board → PlacedLists → List ConditionalBreakpoint
+conditional_in p b l =
+    let points = conditional_points p.launch.program l.on_board b in
+    if p.launch.is_debugged then points l.lines ++ points l.labels else []
 
--- those of these lines and labels
 abbrev pub conditional_with : Program → ℕ → List LineBreakpoint → List FunctionBreakpoint → Board
     → List ConditionalBreakpoint
-conditional_with p number lines functions b =
-    let on_lines = lines_on b number lines in conditional_in p b on_lines (labels_behind b on_lines functions)
+conditional_with p number lines functions b = conditional_in p b (placed_at b number lines functions)
 
 -- the same, and those that aren't on lines
 abbrev pub conditional_for : Program → ProgramLists → Board → List ConditionalBreakpoint

@@ -7,10 +7,11 @@ ghost use Rattle.dap_launch.specs.Points.{data_where, instructions_where, change
 ghost use Rattle.dap_data.specs.Points.{points_on};
 ghost use Rattle.dap_data.specs.Instructions.{instructions_on};
 ghost use Rattle.dap_points.specs.Changes.{changed_points};
-ghost use Rattle.dap_launch.specs.Programs.{program_labels};
+ghost use Rattle.dap_program.specs.Breakpoints.{labels_on};
 
-use crate::program::{LoadedProgram, Program, labels_for};
+use crate::program::{LoadedProgram, Program};
 use base_text::sequence::Sequence;
+use base_text::text::Text;
 use dap_data::instructions::instruction_points;
 use dap_data::points::data_points;
 use dap_editor::request::{
@@ -22,7 +23,7 @@ use dap_points::placed::{
     other_points, unlaunched_data, unlaunched_instructions, unlaunched_labels,
 };
 use dap_points::points::{SourceLines, WantedBreakpoints};
-use dap_program::breakpoints::lines_on;
+use dap_program::breakpoints::{labels_on, lines_on};
 use lab_core::lab::Lab;
 use std::alloc::{AllocError, Global};
 
@@ -67,17 +68,16 @@ pub fn points_where(
 pub fn labels_where(
     alloc: Global,
     program: &Option<Program>,
-    points: &WantedBreakpoints,
     functions: &[FunctionBreakpoint],
     lab: &Lab,
 ) -> Result<Sequence<PlacedBreakpoint>, AllocError>
     requires { length functions.now ≤ 256 }
     ensures { (b : Board) → RepresentsBoard lab.now b
-        → IfOk result (λ labels. labels ≡ labels_where program.now points.now functions.now b) }
+        → IfOk result (λ labels. labels ≡ labels_where program.now functions.now b) }
 {
     match program {
         None => unlaunched_labels(alloc, functions),
-        Some(program) => labels_for(alloc, program, points, functions, lab),
+        Some(_) => labels_on(alloc, lab, functions),
     }
 }
 
@@ -126,8 +126,8 @@ fn copy_line(breakpoint: &LineBreakpoint) -> Result<LineBreakpoint, AllocError>
     })
 }
 
-/// A copy of breakpoints on lines.
-pub fn copy_lines(
+// A copy of breakpoints on lines.
+fn copy_lines(
     alloc: Global,
     lines: &[LineBreakpoint],
 ) -> Result<Sequence<LineBreakpoint>, AllocError>
@@ -138,6 +138,19 @@ pub fn copy_lines(
         copies.push(copy_line(breakpoint)?)?;
     }
     Ok(copies)
+}
+
+/// The breakpoints of the source with this path, in a copy.
+pub fn copy_source(
+    alloc: Global,
+    path: &Text,
+    lines: &[LineBreakpoint],
+) -> Result<SourceLines, AllocError>
+    ensures { IfOk result (λ copy. copy ≡ record { path = path.now; lines = lines.now }) }
+{
+    let path = path.clone()?;
+    let lines = copy_lines(alloc, lines)?;
+    Ok(SourceLines { path, lines })
 }
 
 fn copy_function(function: &FunctionBreakpoint) -> Result<FunctionBreakpoint, AllocError>
@@ -227,18 +240,17 @@ fn changed_labels(
     alloc: Global,
     before: &Option<Program>,
     old: &Lab,
-    loaded: &LoadedProgram,
-    points: &WantedBreakpoints,
+    lab: &Lab,
+    functions: &[FunctionBreakpoint],
 ) -> Result<Sequence<PlacedBreakpoint>, AllocError>
-    ensures { (o b : Board) → RepresentsBoard old.now o → RepresentsBoard loaded.now.lab b
-        → IfOk result (λ labels. labels ≡ changed_points
-        (labels_where before.now points.now (take 256 points.now.functions) o)
-        (program_labels loaded.now.program points.now b)) }
+    requires { length functions.now ≤ 256 }
+    ensures { (o b : Board) → RepresentsBoard old.now o → RepresentsBoard lab.now b
+        → IfOk result (λ points. points
+        ≡ changed_points (labels_where before.now functions.now o) (labels_on b functions.now)) }
 {
-    let functions = points.functions();
-    let told = labels_where(alloc, before, points, functions, old)?;
-    let labels = labels_for(alloc, &loaded.program, points, functions, &loaded.lab)?;
-    changed_points(alloc, told.as_slice(), labels.as_slice())
+    let told = labels_where(alloc, before, functions, old)?;
+    let points = labels_on(alloc, lab, functions)?;
+    changed_points(alloc, told.as_slice(), points.as_slice())
 }
 
 // The breakpoints on data that aren't what they were.
@@ -307,7 +319,7 @@ pub fn all_changed(
         → IfOk result (λ all. all ≡ all_changed before.now o loaded.now.program points.now b) }
 {
     let mut all = changed_from(alloc, before, old, loaded, points.sources())?;
-    let labels = changed_labels(alloc, before, old, loaded, points)?;
+    let labels = changed_labels(alloc, before, old, &loaded.lab, points.functions())?;
     push_points(&mut all, labels)?;
     let off_lines = changed_off_lines(alloc, before, old, &loaded.lab, points)?;
     push_points(&mut all, off_lines)?;

@@ -1,10 +1,10 @@
 //! A launched program, and its breakpoints.
-ghost use Rattle.std.specs.Prelude.{◌≡◌, ◌≤◌, ◌++◌, length, OnOk, OnErr, IfOk};
+ghost use Rattle.std.specs.Prelude.{◌≡◌, ◌≤◌, ◌++◌, length, option_map, OnOk, OnErr, IfOk};
 ghost use Rattle.lab_core.specs.Board.{Board};
 ghost use Rattle.lab_core.specs.Labs.{RepresentsBoard};
 ghost use Rattle.dap_program.specs.Boards.{begin_run};
 ghost use Rattle.dap_launch.specs.Programs.{pauses, with_input, begun_board, begun_if, board_if};
-ghost use Rattle.dap_launch.specs.Programs.{program_lines, labels_for, conditional_in, lists_in};
+ghost use Rattle.dap_launch.specs.Programs.{program_at, conditional_in, lists_in};
 ghost use Rattle.dap_launch.specs.Programs.{program_lists, AreFew, armed_for, program_board, placed_on};
 ghost use Rattle.dap_launch.specs.Programs.{off_lines, conditional_for, program_conditions, ArmsAs};
 
@@ -17,8 +17,9 @@ use dap_editor::request::{
 };
 use dap_lines::conditions::conditional_points;
 use dap_messages::message::PlacedBreakpoint;
+use dap_points::board::board_lines;
 use dap_points::points::WantedBreakpoints;
-use dap_program::breakpoints::{arm, labels_behind, lines_on};
+use dap_program::breakpoints::{arm, labels_on, lines_on};
 use dap_program::change::{begin, begin_stopped, change};
 use dap_slice::conditions::ConditionalBreakpoints;
 use lab_core::answer::End;
@@ -58,11 +59,12 @@ pub struct ProgramBreakpoints<'a> {
     pub instructions: &'a [InstructionBreakpoint],
 }
 
-/// Those on lines, and those at labels, on its board.
+/// Those on lines, and those at labels, on its board; and the lines at which the board itself stops.
 #[derive(Drop)]
 struct PlacedLists {
     lines: Sequence<PlacedBreakpoint>,
     labels: Sequence<PlacedBreakpoint>,
+    on_board: Sequence<u32>,
 }
 
 /// A program on a board of its own.
@@ -148,51 +150,37 @@ pub fn copy_launch(launch: &Launch) -> Result<Launch, AllocError>
     })
 }
 
-/// The breakpoints on a program's lines, on its board.
-pub fn program_lines(
-    alloc: Global,
-    program: &Program,
-    points: &WantedBreakpoints,
-    lab: &Lab,
-) -> Result<Sequence<PlacedBreakpoint>, AllocError>
-    ensures { (b : Board) → RepresentsBoard lab.now b
-        → IfOk result (λ lines. lines ≡ program_lines program.now points.now b) }
+/// The program, if it is the file with this path.
+pub fn program_at<'a>(path: &str, program: &'a Option<Program>) -> Option<&'a Program>
+    ensures { option_map (λ p. p.now) result ≡ program_at path.now program.now }
 {
-    let path = program.launch.canonical.as_str();
-    lines_on(alloc, lab, points.number_of(path), points.lines_at(path))
+    match program {
+        Some(program) if program.launch.canonical.as_str() == path => Some(program),
+        _ => None,
+    }
 }
 
-/// The breakpoints at these labels, on a program's board.
-pub fn labels_for(
-    alloc: Global,
-    program: &Program,
-    points: &WantedBreakpoints,
-    functions: &[FunctionBreakpoint],
-    lab: &Lab,
-) -> Result<Sequence<PlacedBreakpoint>, AllocError>
-    requires { length functions.now ≤ 256 }
-    ensures { (b : Board) → RepresentsBoard lab.now b
-        → IfOk result (λ labels. labels ≡ labels_for program.now points.now functions.now b) }
-{
-    let lines = program_lines(alloc, program, points, lab)?;
-    labels_behind(alloc, lab, lines.as_slice(), functions)
-}
-
-// Those of a program's breakpoints that have options.
+// Those of a program's breakpoints on lines and at labels at which its run stops.
 fn conditional_in(
     alloc: Global,
     lab: &Lab,
     program: &Program,
-    lines: &[PlacedBreakpoint],
-    labels: &[PlacedBreakpoint],
+    lists: &PlacedLists,
 ) -> Result<ConditionalBreakpoints, AllocError>
     ensures { (b : Board) → RepresentsBoard lab.now b → IfOk result
-        (λ points. points ≡ conditional_in program.now b lines.now labels.now) }
+        (λ points. points ≡ conditional_in program.now b lists.now) }
 {
     if !program.launch.is_debugged {
         return ConditionalBreakpoints::new(alloc);
     }
-    conditional_points(alloc, lab, &program.launch.program, lines, labels)
+    conditional_points(
+        alloc,
+        lab,
+        &program.launch.program,
+        lists.on_board.as_slice(),
+        lists.lines.as_slice(),
+        lists.labels.as_slice(),
+    )
 }
 
 // The breakpoints on lines and at labels that are wanted of a program's board.
@@ -202,12 +190,18 @@ fn placed(
     wanted: &ProgramBreakpoints<'_>,
 ) -> Result<PlacedLists, AllocError>
     requires { AreFew (lists_in wanted.now) }
-    ensures { (b : Board) → RepresentsBoard lab.now b
+    ensures lists { (b : Board) → RepresentsBoard lab.now b
         → IfOk result (λ lists. lists ≡ placed_on b (lists_in wanted.now)) }
+    ensures few { IfOk result (λ lists. length lists.on_board ≤ 256) }
 {
     let lines = lines_on(alloc, lab, wanted.number, wanted.lines)?;
-    let labels = labels_behind(alloc, lab, lines.as_slice(), wanted.functions)?;
-    Ok(PlacedLists { lines, labels })
+    let labels = labels_on(alloc, lab, wanted.functions)?;
+    let on_board = board_lines(alloc, lines.as_slice(), labels.as_slice())?;
+    Ok(PlacedLists {
+        lines,
+        labels,
+        on_board,
+    })
 }
 
 // Adds those on data and at instructions.
@@ -229,7 +223,7 @@ fn push_off_lines(
     Ok(())
 }
 
-// Those that have options, and those that aren't on lines.
+// All at which its run stops.
 fn conditional_with(
     alloc: Global,
     lab: &Lab,
@@ -239,16 +233,14 @@ fn conditional_with(
 ) -> Result<ConditionalBreakpoints, AllocError>
     requires { AreFew (lists_in wanted.now) }
     ensures { (b : Board) → RepresentsBoard lab.now b → IfOk result (λ points. points
-        ≡ conditional_in program.now b lists.now.lines lists.now.labels
-        ++ off_lines program.now (lists_in wanted.now) b) }
+        ≡ conditional_in program.now b lists.now ++ off_lines program.now (lists_in wanted.now) b) }
 {
-    let lines = lists.lines.as_slice();
-    let mut points = conditional_in(alloc, lab, program, lines, lists.labels.as_slice())?;
+    let mut points = conditional_in(alloc, lab, program, lists)?;
     push_off_lines(alloc, lab, program, wanted, &mut points)?;
     Ok(points)
 }
 
-/// Those of a program's breakpoints that have options, and those that aren't on lines.
+/// The breakpoints at which a program's run stops: those on lines, at labels, on data and at instructions.
 pub fn conditional_for(
     alloc: Global,
     lab: &Lab,
@@ -263,8 +255,8 @@ pub fn conditional_for(
     conditional_with(alloc, lab, program, wanted, &lists)
 }
 
-/// Makes a program's board stop at these breakpoints, and returns those that have options, and those that
-/// aren't on lines. If memory runs out the board stays as it was.
+/// Makes a program's board stop at these breakpoints, and returns all at which its run stops. If memory runs
+/// out the board stays as it was.
 pub fn arm_with(
     alloc: Global,
     lab: &mut Lab,
@@ -278,14 +270,7 @@ pub fn arm_with(
 {
     let lists = placed(alloc, lab, wanted)?;
     let points = conditional_with(alloc, lab, program, wanted, &lists)?;
-    let path = &program.launch.program;
-    arm(
-        alloc,
-        lab,
-        path,
-        lists.lines.as_slice(),
-        lists.labels.as_slice(),
-    )?;
+    arm(lab, &program.launch.program, lists.on_board)?;
     Ok(points)
 }
 
@@ -304,8 +289,8 @@ pub fn wanted_of<'a>(points: &'a WantedBreakpoints, program: &Program) -> Progra
     }
 }
 
-/// Makes a program's board stop at the breakpoints that are kept for the program, and returns those that have
-/// options, and those that aren't on lines. If memory runs out the board stays as it was.
+/// Makes a program's board stop at the breakpoints that are kept for the program, and returns all at which
+/// its run stops. If memory runs out the board stays as it was.
 pub fn arm_program(
     alloc: Global,
     lab: &mut Lab,

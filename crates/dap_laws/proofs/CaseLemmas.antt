@@ -4,7 +4,7 @@ use Rattle.std.proofs.Common.{if◌then◌else◌, codes, refl, subst, arith}
 use Rattle.base_text.specs.Bytes.{Text}
 use Rattle.lab_core.specs.declared.fault.EventFault.TheVariants.{NotStopped}
 use Rattle.dap_editor.specs.declared.request.RequestContent.{RequestContent}
-use Rattle.dap_history.specs.declared.goal.Goal.{Goal}
+use Rattle.dap_search.specs.declared.goal.Goal.{Goal}
 use Rattle.dap_launch.specs.declared.file.FileText.{FileText}
 use Rattle.dap_program.specs.Refusals.{board_refusal}
 use Rattle.dap_session.specs.Slices.{slice_end_in}
@@ -97,9 +97,9 @@ left Q c r v (Some goal) is can stopped of = of.searches goal c r is can stopped
 by_count : (Q : RecordedReply → Type 0) (c : Back) (r : Recording) (v : RecordedState) (b : Bool)
     → v.recording ≡ Some r → can_go_back v.session ≡ true → is_stopped v.session.board.run ≡ true
     → OfReplies Q v
-    → Q (if b then leaving (goal_of c v.session.board) c r v.session
+    → Q (if b then leaving (goal_of c r.count v.session) c r v.session
     else refusing_back (codes "the run begins here") (Some r) v.session)
-by_count Q c r v true is can stopped of = left Q c r v (goal_of c v.session.board) is can stopped of
+by_count Q c r v true is can stopped of = left Q c r v (goal_of c r.count v.session) is can stopped of
 by_count Q c r v false is can stopped of =
     subst (λ o. Q (refusing_back (codes "the run begins here") o v.session)) is
     (of.refused (codes "the run begins here"))

@@ -2,8 +2,8 @@
 use Rattle.std.proofs.Common.{◌≡◌, ◌∙◌, ◌<◌, ◌≤◌, ℕ, zero, suc, Bool, true, false, Some, refl, sym, ap, subst}
 use Rattle.std.proofs.Common.{if◌then◌else◌, inl, inr, arith}
 use Rattle.std.proofs.lemmas.Bool.{cases_lt}
-use Rattle.dap_history.specs.declared.goal.Goal.{Goal}
-use Rattle.dap_history.specs.Searches.{last_below, passes}
+use Rattle.dap_search.specs.declared.goal.Goal.{Goal}
+use Rattle.dap_search.specs.Goals.{last_below, passes}
 use Rattle.dap_session.specs.States.{SessionState}
 use Rattle.dap_session.specs.Rewinds.{target_for}
 use Rattle.dap_record.specs.Recordings.{Recording, RecordedState}

@@ -16,7 +16,7 @@ use Rattle.dap_editor.specs.declared.request.EditorCommand.TheVariants as editor
 use Rattle.dap_editor.specs.declared.request.EvaluateContext.TheVariants as context
 use Rattle.dap_editor.specs.declared.request.RequestContent.{RequestContent}
 use Rattle.dap_editor.specs.declared.request.RequestContent.TheVariants as asked
-use Rattle.dap_history.specs.declared.goal.Goal.{Goal}
+use Rattle.dap_search.specs.declared.goal.Goal.{Goal}
 use Rattle.dap_history.specs.Runs.{board_at}
 use Rattle.dap_launch.specs.declared.file.FileText.{FileText}
 use Rattle.dap_editor.specs.declared.request.EditorRequest.{EditorRequest}

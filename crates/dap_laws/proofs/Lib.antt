@@ -6,3 +6,4 @@ pub mod HoldLemmas
 pub mod StopLemmas
 pub mod EndLemmas
 pub mod PointLemmas
+pub mod CountLemmas

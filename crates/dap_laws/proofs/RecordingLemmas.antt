@@ -15,7 +15,9 @@ use Rattle.dap_launch.specs.declared.file.FileText.{FileText}
 use Rattle.dap_launch.specs.Lives.{held_ends}
 use Rattle.dap_inputs.specs.Inputs.{after_input_if, is_success}
 use Rattle.dap_session.specs.States.{SessionState, with_waits}
-use Rattle.dap_session.specs.Rewinds.{can_go_back, held_at, rewound}
+use Rattle.dap_session.specs.Rewinds.{can_go_back, held_at, put_to}
+use Rattle.dap_slice.specs.declared.conditions.ConditionalBreakpoint.{ConditionalBreakpoint}
+use Rattle.dap_slice.specs.Counts.{without_hits}
 use Rattle.dap_session.specs.Slices.{slicing}
 use Rattle.dap_session.specs.Laws.{SameParts, asks_to_load}
 use Rattle.dap_record.specs.Recordings.{Recording, RecordedState, recorded_before_requests, new_recording}
@@ -31,7 +33,7 @@ use Rattle.dap_record.proofs.RunLemmas.{same_input, same_then}
 use Rattle.dap_record.proofs.RequestLemmas.{after_made, not_begun, board_with_input}
 use Rattle.dap_record.proofs.RecordedLemmas.{look_leaves}
 use Rattle.dap_record.proofs.SliceLemmas.{arrived, kept_left}
-use Rattle.dap_record.proofs.TravelLemmas.{can_rewound, can_held}
+use Rattle.dap_record.proofs.TravelLemmas.{can_put, can_held}
 use Rattle.dap_laws.specs.Recorded.{after_all, IsRecordingOf, IsRecordingOfIf, IsSamePlace, IsSamePlaceIf}
 use Rattle.dap_laws.proofs.CaseLemmas.{turn_for, of_turn, of_back, of_slice}
 use Rattle.dap_laws.proofs.GoalLemmas.{found_within}
@@ -120,14 +122,15 @@ pub recording_in : (v : RecordedState) (r : Recording) → v.recording ≡ Some 
     → IsRecordingOfIf v.recording v.session → IsRecordingOf r v.session
 recording_in v r is of = subst (λ o. IsRecordingOfIf o v.session) is of
 
-put_back : (r : Recording) (count : ℕ) (s : SessionState) → count ≤ r.count → IsRecordingOf r s
-    → IsRecordingOf (record r { count = count }) (rewound (board_at r.start r.log count) s)
-put_back r count s within of =
+put_back : (r : Recording) (count : ℕ) (points : List ConditionalBreakpoint) (s : SessionState)
+    → count ≤ r.count → IsRecordingOf r s
+    → IsRecordingOf (record r { count = count }) (put_to (board_at r.start r.log count) points s)
+put_back r count points s within of =
     let told = of.told in
     record {
       parts = record { machine = refl; past = refl; trace = refl };
       ordered = of.ordered;
-      can = can_rewound (board_at r.start r.log count) s of.can;
+      can = can_put (board_at r.start r.log count) points s of.can;
       told = omega (arith, within, told);
     }
 
@@ -169,7 +172,8 @@ turned a found v of =
           of_back (λ r. IsRecordingOfIf (turn_of r).state.recording (turn_of r).state.session) c v (record {
             refused = λ text. of;
             arrives = λ c r count is can within.
-                put_back r count v.session within (recording_in v r is of);
+                put_back r count (without_hits v.session.settings.conditional) v.session within
+                (recording_in v r is of);
             searches = λ goal c r is can stopped.
                 put_held r v.session (recording_in v r is of);
           });
@@ -206,7 +210,7 @@ sliced finds v of =
           (recording_in v r is of);
       searches = λ goal on. of;
       finds = λ goal r on is.
-          put_back r (found_by goal r v.session) v.session (found_within goal r v.session)
+          put_back r (found_by goal r v.session) _ v.session (found_within goal r v.session)
           (recording_in v r is of);
     })
 

@@ -9,11 +9,11 @@ use Rattle.lab_core.specs.declared.run_state.RunState.{RunState}
 use Rattle.lab_core.specs.declared.run_state.RunState.TheVariants.{NoRun, Running, Stopped}
 use Rattle.lab_core.specs.Board.{Board}
 use Rattle.lab_core.specs.Events.{EventResult}
-use Rattle.dap_answers.specs.declared.answer.StopReason.TheVariants.{Pause as ByPause}
+use Rattle.dap_answers.specs.declared.answer.StopReason.TheVariants.{Pause as ByPause, Step as ByStep}
 use Rattle.dap_messages.specs.declared.message.EditorEvent.{EditorEvent}
 use Rattle.dap_messages.specs.declared.message.EditorEvent.TheVariants as event
 use Rattle.dap_messages.specs.declared.message.EditorStop.{EditorStop}
-use Rattle.dap_messages.specs.declared.message.EditorStop.TheVariants.{Board as AtBoard}
+use Rattle.dap_messages.specs.declared.message.EditorStop.TheVariants.{Board as AtBoard, Entry}
 use Rattle.dap_messages.specs.declared.message.Message.{Message}
 use Rattle.dap_messages.specs.declared.message.Message.TheVariants as message
 use Rattle.dap_editor.specs.declared.request.EditorCommand.TheVariants as editor
@@ -21,6 +21,9 @@ use Rattle.dap_editor.specs.declared.request.EvaluateContext.TheVariants as cont
 use Rattle.dap_editor.specs.declared.request.RequestContent.{RequestContent}
 use Rattle.dap_editor.specs.declared.request.RequestContent.TheVariants as asked
 use Rattle.dap_inputs.specs.Inputs.{as_meant}
+use Rattle.dap_search.specs.declared.goal.Goal.{Goal}
+use Rattle.dap_search.specs.declared.goal.Goal.TheVariants.{Statement, Breakpoint, Count}
+use Rattle.dap_search.specs.Goals.{is_goal}
 use Rattle.dap_history.specs.declared.input.Input.{Input as RunInput}
 use Rattle.dap_history.specs.declared.input.Input.TheVariants as input
 use Rattle.dap_history.specs.declared.input.Recorded.{Recorded}
@@ -36,7 +39,10 @@ use Rattle.dap_session.specs.Slices.{slice_end_in}
 use Rattle.dap_program.proofs.SliceLemmas.{told-append}
 use Rattle.dap_session.specs.States.{SessionState, is_running, wants_slice}
 use Rattle.dap_session.specs.Memory.{is_stopped}
-use Rattle.dap_session.specs.Rewinds.{is_debugged, can_go_back, held_at, rewound}
+use Rattle.dap_session.specs.Rewinds.{is_debugged, can_go_back, held_at, put_to, after_search}
+use Rattle.dap_slice.specs.declared.conditions.ConditionalBreakpoint.{ConditionalBreakpoint}
+use Rattle.dap_slice.specs.Counts.{without_hits}
+use Rattle.dap_search.specs.Recounts.{without_hits_between}
 use Rattle.dap_session.specs.Slices.{slicing}
 use Rattle.dap_session.specs.Laws.{Shown, shown_after, shown_by, shown_for, ends_in, ends_told}
 use Rattle.dap_session.specs.Laws.{has_run, has_begun, is_begun, events_in, asks_to_load}
@@ -47,7 +53,8 @@ use Rattle.dap_session.proofs.StopLemmas.{follows_turn, follows_slicing, follows
 use Rattle.dap_session.proofs.StopLemmas.{quiet_turn, quiet_sliced}
 use Rattle.dap_record.specs.Recordings.{Recording, RecordedState, recorded_before_requests, input_made}
 use Rattle.dap_record.specs.Recordings.{forgets_by, is_behind, inputs_ahead, after_inputs}
-use Rattle.dap_record.specs.Backward.{found_by}
+use Rattle.dap_slice.specs.Stops.{back_ids}
+use Rattle.dap_record.specs.Backward.{found_by, found_event, met_or_entry, stop_at_count}
 use Rattle.dap_record.specs.Turns.{RecordedTurn, recorded_turn, forgotten_events, count_of, turn_of, turn}
 use Rattle.dap_record.specs.Slices.{RecordedTold, new_messages, recorded_slice, slice_limit}
 use Rattle.dap_record.specs.Slices.{slice_told, Input, request, slice, step, play_all, meant_by}
@@ -141,15 +148,35 @@ none_ends : (o : Option Program)
     → zero ≡ ended_count (is_live o) (is_live (option_map released_program o))
 none_ends o = none_ended (is_live o) ∙ ap (ended_count (is_live o)) (sym (live_program o))
 
--- and this is told
-follows_stopped : (why : EditorStop) (was : Board) (s : SessionState) → IsReached (seen s)
-    → can_go_back s ≡ true
-    → Follows (seen s) (as_messages (event.Stopped why ∷ [])) (seen (rewound was s))
-follows_stopped why was s reached can = record {
+-- it tells an editor that the run is stopped, and of no end
+record TellsStop (e : EditorEvent) : Type 0 where
+  stops : (d : Shown) → shown_after d (message.Event e) ≡ shown_for Stopped
+  ends : ends_told (message.Event e ∷ []) ≡ zero
+
+-- as of a request that knows the count
+tells_why : (why : EditorStop) → TellsStop (event.Stopped why)
+tells_why why = record { stops = λ d. refl; ends = refl }
+
+-- or of a search
+tells_found : (goal : Goal) (s : SessionState) → TellsStop (found_event goal s)
+tells_found (Statement depth) s = tells_why (AtBoard ByStep)
+tells_found (Count count) s = tells_why (AtBoard ByStep)
+tells_found Breakpoint s =
+    by (is_goal s.settings.conditional Breakpoint s.board) (back_ids s.settings.conditional s.board)
+  where
+    by : (is : Bool) (ids : List ℕ) → TellsStop (met_or_entry is ids)
+    by true ids = record { stops = λ d. refl; ends = refl }
+    by false ids = tells_why Entry
+
+-- and so it is told
+follows_put : (e : EditorEvent) (was : Board) (points : List ConditionalBreakpoint) (s : SessionState)
+    → TellsStop e → IsReached (seen s) → can_go_back s ≡ true
+    → Follows (seen s) (as_messages (e ∷ [])) (seen (put_to was points s))
+follows_put e was points s tells reached can = record {
   reached = program_fits s.settings.program s.board.run s.board.is_attached s.settings.is_configured reached
       can;
-  stops = refl;
-  ends = none_ends s.settings.program;
+  stops = tells.stops (shown_for s.board.run);
+  ends = tells.ends ∙ none_ends s.settings.program;
 }
 
 -- or nothing, of one that is stopped already
@@ -203,7 +230,9 @@ follows_asked a found v stands =
           (seen (turn_of r).state.session)) c v (record {
             refused = λ text. (still s s stands.reached refl).follows;
             arrives = λ by r count on can within.
-                follows_stopped _ (board_at r.start r.log count) s stands.reached can;
+                follows_put (event.Stopped (stop_at_count by)) (board_at r.start r.log count)
+                (without_hits s.settings.conditional) s
+                (tells_why (stop_at_count by)) stands.reached can;
             searches = λ goal by r on can halted.
                 follows_held (board_at r.start r.log r.count) s stands.reached can
                 (run_stopped s.board.run halted);
@@ -258,8 +287,12 @@ follows_slice finds v stands =
           follows_recorded (slice_end_in (slice_limit r) s) r s stands.reached wants;
       searches = λ goal on. (still s s stands.reached refl).follows;
       finds = λ goal r on is.
-          follows_stopped _ (board_at r.start r.log (found_by goal r s)) s stands.reached
-          (recording_in v r is stands.recording).can;
+          let was = board_at r.start r.log (found_by goal r s) in
+          let count = found_by goal r s in
+          let there = after_search r.start r.log r.count count s in
+          let points = without_hits_between s.settings.conditional r.start r.log s.board count r.count in
+          follows_put (found_event goal there) was points s (tells_found goal there)
+          stands.reached (recording_in v r is stands.recording).can;
     })
 
 -- ---- sessions

@@ -14,7 +14,12 @@ use Rattle.dap_messages.specs.declared.message.EditorEvent.TheVariants as event
 use Rattle.dap_messages.specs.declared.message.Message.{Message}
 use Rattle.dap_messages.specs.declared.message.Message.TheVariants as message
 use Rattle.dap_editor.specs.declared.request.RequestContent.{RequestContent}
+use Rattle.dap_search.specs.declared.goal.Goal.{Goal}
+use Rattle.dap_search.specs.declared.goal.Goal.TheVariants.{Statement, Breakpoint, Count}
+use Rattle.dap_search.specs.Goals.{is_goal}
+use Rattle.dap_slice.specs.Stops.{back_ids}
 use Rattle.dap_launch.specs.declared.file.FileText.{FileText}
+use Rattle.dap_program.specs.Messages.{as_messages}
 use Rattle.dap_session.specs.States.{SessionState, wants_slice}
 use Rattle.dap_session.specs.Slices as session
 use Rattle.dap_session.specs.Slices.{caller_of, slicing}
@@ -22,9 +27,10 @@ use Rattle.dap_session.specs.Laws.{caller_in, callers_answered, stdout_in, conso
 use Rattle.dap_session.proofs.LawLemmas.{callers_answered-told, answered_slicing, answered_sliced}
 use Rattle.dap_session.proofs.LawLemmas.{IsSilent, silent-append, silent_turn, shown_slicing}
 use Rattle.dap_record.specs.Recordings.{Recording, RecordedState, input_made, forgets_by, is_behind}
+use Rattle.dap_record.specs.Backward.{found_event, met_or_entry}
 use Rattle.dap_record.specs.Turns.{RecordedTurn, forgotten_events, count_of, turn_of, turn}
 use Rattle.dap_record.specs.Slices.{RecordedTold, new_messages, steps_to, slice_limit, slice_told, Input}
-use Rattle.dap_record.specs.Slices.{request, slice, step, play_all, meant_by}
+use Rattle.dap_record.specs.Slices.{found_from, request, slice, step, play_all, meant_by}
 use Rattle.dap_laws.specs.Recorded.{request_in, callers_asking, written_by, all_written}
 use Rattle.dap_laws.proofs.CaseLemmas.{turn_for, of_turn, of_back, of_slice}
 
@@ -134,6 +140,17 @@ written_plain : (s : SessionState) → wants_slice s ≡ true
 unfolding session.slice_told
 written_plain s wants = rw wants (shown_slicing (slice_end_in 4096 s) s)
 
+-- where a search ends nothing is written
+silent_found : (goal : Goal) (s : SessionState) → console_of (as_messages (found_event goal s ∷ [])) ≡ []
+silent_found (Statement depth) s = refl
+silent_found (Count count) s = refl
+silent_found Breakpoint s =
+    by (is_goal s.settings.conditional Breakpoint s.board) (back_ids s.settings.conditional s.board)
+  where
+    by : (is : Bool) (ids : List ℕ) → console_of (as_messages (met_or_entry is ids ∷ [])) ≡ []
+    by true ids = refl
+    by false ids = refl
+
 written_slice : (finds : Bool) (v : RecordedState)
     → console_of (slice_told finds v).messages ≡ written_by (slice finds) v
 written_slice finds v =
@@ -144,7 +161,8 @@ written_slice finds v =
           (written_new (is_behind r) r (slice_end_in (slice_limit r) v.session) v.session refl
           (end_within v.session.settings.conditional (slice_limit r) v.session.board));
       searches = λ goal on. rw on refl;
-      finds = λ goal r on is. rw on refl;
+      finds = λ goal r on is. rw on
+          (silent_found goal (found_from r goal v.session).state.session);
     })
 
 written_step : (input : Input) (v : RecordedState) → console_of (step input v).messages ≡ written_by input v

@@ -1,13 +1,12 @@
 -- What the laws say of a program's breakpoints.
-use Rattle.std.specs.Prelude.{◌≡◌, ℕ, List, ◌++◌, true, false, Option, Some, Ok, option_and_then, option_map}
+use Rattle.std.specs.Prelude.{◌≡◌, ℕ, List, ◌++◌, true, false, Option, Some, None, Ok, option_and_then}
+use Rattle.std.specs.Prelude.{option_map}
 use Rattle.std.specs.List.{Contains}
 use Rattle.base_text.specs.Bytes.{Text}
 use Rattle.lab_image.specs.Loads.{origin_of}
 use Rattle.lab_image.specs.Sources.{source_at}
 use Rattle.lab_core.specs.Board.{Board}
 use Rattle.dap_messages.specs.declared.message.PlacedBreakpoint.{PlacedBreakpoint}
-use Rattle.dap_editor.specs.declared.request.LineBreakpoint.{LineBreakpoint}
-use Rattle.dap_editor.specs.declared.request.FunctionBreakpoint.{FunctionBreakpoint}
 use Rattle.dap_messages.specs.declared.message.GotoTarget.{GotoTarget}
 use Rattle.dap_expr.specs.declared.expression.Expression.{Expression}
 use Rattle.dap_log.specs.declared.message.LogMessage.{LogMessage}
@@ -15,17 +14,21 @@ use Rattle.dap_slice.specs.declared.conditions.ConditionalBreakpoint.{Conditiona
 use Rattle.dap_slice.specs.declared.conditions.Trigger.TheVariants.{Address}
 use Rattle.dap_slice.specs.declared.hits.HitCondition.{HitCondition}
 use Rattle.dap_points.specs.Boards.{is_plain}
-use Rattle.dap_lines.specs.Conditions.{condition_read, hits_read, log_read, log_point, stop_at}
+use Rattle.lab_image.specs.Breakpoints.{is_met}
+use Rattle.dap_lines.specs.Conditions.{condition_read, hits_read, log_read, log_point, stop_at, own_stop}
 use Rattle.dap_lines.specs.Targets.{first_target}
-use Rattle.dap_program.specs.Breakpoints.{lines_on, labels_behind}
+use Rattle.dap_program.specs.Breakpoints.{lines_on, labels_on}
 use Rattle.dap_launch.specs.declared.program.Program.{Program}
+use Rattle.dap_launch.specs.Programs.{ProgramLists, armed_for, conditional_for}
 
--- Of the breakpoints on these lines of the program, which is the source with this number, and at these labels
--- one without options is told as verified on this line.
-pub record IsVerified (number : ℕ) (lines : List LineBreakpoint) (functions : List FunctionBreakpoint)
-    (b : Board) (line : ℕ) : Type 0 where
+-- what is told of the breakpoints on lines and at labels that are wanted of a program
+abbrev pub told_on : Board → ProgramLists → List PlacedBreakpoint
+told_on b w = lines_on b w.number w.lines ++ labels_on b w.functions
+
+-- one of them has no options, and is told as verified on this line
+pub record IsVerified (w : ProgramLists) (b : Board) (line : ℕ) : Type 0 where
   pub point : PlacedBreakpoint
-  pub told : Contains (lines_on b number lines ++ labels_behind b (lines_on b number lines) functions) point
+  pub told : Contains (told_on b w) point
   pub is_verified : point.is_verified ≡ true
   pub plain : is_plain point.options ≡ true
   pub on : point.line ≡ Some line
@@ -37,12 +40,21 @@ pub record BeginsOn (p : Program) (line : ℕ) (b : Board) (address : ℕ) : Typ
   pub source : source_at b.sources p.launch.program ≡ Some (number, text)
   pub origin : origin_of b.loads address ≡ Some (record { source = number; line = line; is_first = true })
 
--- ---- options
+-- the board stops at the address, and a debugged run knows the breakpoint's number there
+abbrev pub IsMetByBoard : {line : ℕ} (p : Program) (w : ProgramLists) (b : Board) → IsVerified w b line → ℕ
+    → Type 0
+IsMetByBoard {line} p w b v address =
+    (is_met (armed_for p w b).breakpoints b.loads address ≡ true)
+    × (p.launch.is_debugged ≡ true → Contains (conditional_for p w b) (own_stop v.point.id line))
 
--- it is one of those that are told on these lines and at these labels
-abbrev pub IsTold : ℕ → List LineBreakpoint → List FunctionBreakpoint → Board → PlacedBreakpoint → Type 0
-IsTold number lines functions b point =
-    Contains (lines_on b number lines ++ labels_behind b (lines_on b number lines) functions) point
+-- the slices of a debugged run look where the first statement on the line begins
+abbrev pub IsMetInSlices : {line : ℕ} (p : Program) (w : ProgramLists) (b : Board) → IsVerified w b line
+    → Type 0
+IsMetInSlices {line} p w b v = (target : GotoTarget) → first_target b line ≡ Some target
+    → p.launch.is_debugged ≡ true
+    → Contains (conditional_for p w b) (stop_at v.point.id (Address target.address) None None)
+
+-- ---- options
 
 -- a breakpoint of a program with this log message on the target's line
 abbrev pub with_message : Program → GotoTarget → Option LogMessage → ConditionalBreakpoint

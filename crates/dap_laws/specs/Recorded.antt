@@ -8,21 +8,20 @@ use Rattle.lab_core.specs.declared.answer.SliceOutcome.TheVariants as outcome
 use Rattle.lab_core.specs.Slices.{after_steps}
 use Rattle.dap_session.specs.Slices.{slice_end_in}
 use Rattle.dap_messages.specs.declared.message.EditorOutcome.TheVariants.{Refused}
-use Rattle.dap_history.specs.declared.goal.Goal.{Goal}
+use Rattle.dap_search.specs.declared.goal.Goal.{Goal}
 use Rattle.dap_history.specs.Logs.{Ascends, up_to}
 use Rattle.dap_history.specs.Runs.{board_at}
-use Rattle.dap_history.specs.Searches.{passes}
+use Rattle.dap_search.specs.Goals.{passes}
 use Rattle.dap_launch.specs.Lives.{is_live}
 use Rattle.dap_program.specs.declared.messages.RequestId.{RequestId}
-use Rattle.dap_program.specs.declared.messages.FollowUp.TheVariants.{Stopped}
-use Rattle.dap_program.specs.Messages.{as_messages, events_of}
+use Rattle.dap_program.specs.Messages.{as_messages}
 use Rattle.dap_session.specs.States.{SessionState, wants_slice, with_waits, has_watch_commands}
-use Rattle.dap_session.specs.Rewinds.{can_go_back, rewound, target_for}
+use Rattle.dap_session.specs.Rewinds.{can_go_back, after_search, target_for}
 use Rattle.dap_session.specs.Slices.{Told, caller_of}
 use Rattle.dap_session.specs.Laws.{SameParts, LeavesAll, written_in, asks_to_load, has_run, has_begun}
 use Rattle.dap_session.specs.Laws.{events_in, ends_told, ends_between}
 use Rattle.dap_record.specs.Recordings.{Recording, RecordedState, recorded_before_requests, inputs_ahead}
-use Rattle.dap_record.specs.Backward.{stop_found}
+use Rattle.dap_record.specs.Backward.{found_event}
 use Rattle.dap_record.specs.Turns.{RecordedTurn}
 use Rattle.dap_record.specs.Slices.{RecordedTold, Input, request, slice, step, play_all, slice_limit}
 
@@ -67,9 +66,9 @@ pub record IsLastBelow (test : ℕ → Bool) (n count : ℕ) : Type 0 where
 pub record MeetsGoal (goal : Goal) (r : Recording) (s : SessionState) (t : RecordedTold) : Type 0 where
   pub count : ℕ
   pub last : IsLastBelow (passes (target_for goal s) r.start r.log s.board) r.count count
-  pub messages : t.messages ≡ as_messages (events_of (Stopped (stop_found goal r s count)))
+  pub messages : t.messages ≡ as_messages (found_event goal t.state.session ∷ [])
   pub state : t.state ≡ record {
-    session = rewound (board_at r.start r.log count) s;
+    session = after_search r.start r.log r.count count s;
     recording = Some (record r { count = count });
     search = None;
   }

@@ -1,5 +1,5 @@
 //! What holds of every session whose run is recorded (dap_record): where it is, and where going back leads.
-ghost use Rattle.std.specs.Prelude.{◌≡◌, ◌∷◌, List, Bool, true, Option, Some};
+ghost use Rattle.std.specs.Prelude.{◌≡◌, ◌-◌, ◌∷◌, ℕ, List, Bool, true, false, Option, Some};
 ghost use Rattle.lab_core.specs.declared.answer.End.{End};
 ghost use Rattle.base_text.specs.Bytes.{Text};
 ghost use Rattle.dap_editor.specs.declared.request.EditorCommand.TheVariants as editor;
@@ -7,10 +7,15 @@ ghost use Rattle.dap_editor.specs.declared.request.EvaluateContext.TheVariants a
 ghost use Rattle.dap_editor.specs.declared.request.EditorRequest.{EditorRequest};
 ghost use Rattle.dap_editor.specs.declared.request.RequestContent.TheVariants as asked;
 ghost use Rattle.dap_editor.specs.declared.request.RequestContent.{RequestContent};
-ghost use Rattle.dap_history.specs.declared.goal.Goal.{Goal};
+ghost use Rattle.dap_slice.specs.declared.conditions.ConditionalBreakpoint.{ConditionalBreakpoint};
+ghost use Rattle.dap_slice.specs.Tallies.{is_any_full};
+ghost use Rattle.dap_search.specs.declared.goal.Goal.{Goal};
+ghost use Rattle.dap_search.specs.Recounts.{after_hits_from};
 ghost use Rattle.dap_launch.specs.declared.file.FileText.{FileText};
 ghost use Rattle.dap_program.specs.Messages.{response, as_messages};
-ghost use Rattle.dap_session.specs.Slices.{after_slice_in};
+ghost use Rattle.dap_session.specs.States.{SessionState};
+ghost use Rattle.dap_session.specs.Rewinds.{after_search};
+ghost use Rattle.dap_session.specs.Slices.{after_slice_in, slice_end_in};
 ghost use Rattle.dap_session.specs.Slices.{caller_of};
 ghost use Rattle.dap_session.specs.Laws.{callers_answered, console_of, shown_by, shown_for, SameParts};
 ghost use Rattle.dap_session.specs.Laws.{EndIsTold};
@@ -19,7 +24,9 @@ ghost use Rattle.dap_record.specs.MidSearch.{mid_search};
 ghost use Rattle.dap_record.specs.Recordings.{Recording, RecordedState, recorded_before_requests};
 ghost use Rattle.dap_record.specs.Turns.{turn};
 ghost use Rattle.dap_record.specs.Slices.{Input, meant_by, request_told, slice_told, slice_limit, play_all};
-ghost use Rattle.dap_laws.specs.Recorded.{after_all, IsRecordingOfIf, IsSamePlaceIf, MeetsGoal};
+ghost use Rattle.dap_record.specs.Slices.{recorded_slice};
+ghost use Rattle.dap_laws.specs.Recorded.{after_all, IsRecordingOf, IsRecordingOfIf, IsSamePlaceIf};
+ghost use Rattle.dap_laws.specs.Recorded.{MeetsGoal};
 ghost use Rattle.dap_laws.specs.Recorded.{callers_asking, all_written, RefusalLeaves, tried_again};
 ghost use Rattle.dap_laws.specs.Recorded.{EndsAreTold, EndsNext, session_told, WatchesOnlyLook};
 
@@ -44,6 +51,23 @@ pub fn search_meets()
     ensures { (goal : Goal) (r : Recording) (v : RecordedState)
         → v.search ≡ Some goal → v.recording ≡ Some r
         → MeetsGoal goal r v.session (slice_told true v) }
+{}
+
+/// A slice counts the hits of the recorded run's steps from there on, in order.
+pub fn slices_count_hits()
+    ensures { (r : Recording) (s : SessionState) → IsRecordingOf r s
+        → (recorded_slice (slice_end_in (slice_limit r) s) r s).state.session.settings.conditional
+        ≡ after_hits_from s.settings.conditional r.start r.log s.board r.count
+        (slice_end_in (slice_limit r) s).0 }
+{}
+
+/// Breakpoints that counted the hits of the run's steps from a count on, and none of which is full, have the
+/// counts that they had there once a search has put the run back to it.
+pub fn counts_go_back()
+    ensures { (points : List ConditionalBreakpoint) (r : Recording) (s : SessionState) (count : ℕ)
+        → s.settings.conditional ≡ after_hits_from points r.start r.log s.board count (r.count - count)
+        → is_any_full s.settings.conditional ≡ false
+        → (after_search r.start r.log r.count count s).settings.conditional ≡ points }
 {}
 
 /// Each request has one response, in the order in which they came, with its number and its command.

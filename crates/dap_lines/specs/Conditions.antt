@@ -1,8 +1,8 @@
 -- The conditions, hit conditions and log messages of breakpoints on a program's board (Debug Adapter
 -- Protocol, "SourceBreakpoint").
 use Rattle.std.specs.Prelude.{ℕ, List, ◌++◌, Bool, Option, Some, None, Result, Ok, Err, codes, decimal}
-use Rattle.std.specs.Prelude.{option_and_then, option_map, if◌then◌else◌}
-use Rattle.std.specs.List.{filter_map}
+use Rattle.std.specs.Prelude.{◌==◌, option_and_then, option_map, if◌then◌else◌}
+use Rattle.std.specs.List.{filter_map, list_any}
 use Rattle.base_text.specs.Bytes.{Text}
 use Rattle.asm_expr.specs.declared.evaluation.ExprFault.{ExprFault}
 use Rattle.asm_expr.specs.declared.evaluation.ExprFault.TheVariants.{Undefined}
@@ -19,7 +19,7 @@ use Rattle.dap_log.specs.Messages.{message_of, is_undefined_on}
 use Rattle.dap_slice.specs.declared.conditions.LogPoint.{LogPoint}
 use Rattle.dap_slice.specs.declared.conditions.ConditionalBreakpoint.{ConditionalBreakpoint}
 use Rattle.dap_slice.specs.declared.conditions.Trigger.{Trigger}
-use Rattle.dap_slice.specs.declared.conditions.Trigger.TheVariants.{Address}
+use Rattle.dap_slice.specs.declared.conditions.Trigger.TheVariants.{Address, Line}
 use Rattle.dap_slice.specs.declared.hits.HitCondition.{HitCondition}
 use Rattle.dap_slice.specs.declared.hits.Hits.{Hits}
 use Rattle.dap_messages.specs.declared.message.BreakpointNote.{BreakpointNote}
@@ -27,7 +27,7 @@ use Rattle.dap_messages.specs.declared.message.BreakpointNote.TheVariants.{Wrong
 use Rattle.dap_messages.specs.declared.message.BreakpointOptions.{BreakpointOptions}
 use Rattle.dap_messages.specs.declared.message.GotoTarget.{GotoTarget}
 use Rattle.dap_messages.specs.declared.message.PlacedBreakpoint.{PlacedBreakpoint}
-use Rattle.dap_points.specs.Boards.{is_plain}
+use Rattle.dap_points.specs.Boards.{is_plain, verified_line}
 use Rattle.dap_lines.specs.HitConditions.{hit_condition_of}
 use Rattle.dap_lines.specs.Targets.{first_target}
 
@@ -150,11 +150,23 @@ breakpoint_at id path o None = None
 breakpoint_at id path o (Some target) =
     option_and_then (with_log path target (log_read o.log_message)) (stop_by id (Address target.address) o)
 
--- where the first statement of its line begins, if it has options
-abbrev pub conditional_point : Text → Board → PlacedBreakpoint → Option ConditionalBreakpoint
-conditional_point path b p =
-    if is_plain p.options then None
+-- where the board itself stops
+abbrev pub own_stop : ℕ → ℕ → ConditionalBreakpoint
+own_stop id line = stop_at id (Line line) None None
+
+-- One without options is the board's own, if it is on one of these lines, which the board takes. If it isn't,
+-- it is where the first statement of its line begins.
+abbrev pub plain_point : Text → List ℕ → Board → PlacedBreakpoint → Option ℕ → Option ConditionalBreakpoint
+plain_point path taken b p None = None
+plain_point path taken b p (Some line) =
+    if list_any (λ l. l == line) taken then Some (own_stop p.id line)
+    else breakpoint_at p.id path p.options (first_target b line)
+
+-- One with options is always there.
+abbrev pub conditional_point : Text → List ℕ → Board → PlacedBreakpoint → Option ConditionalBreakpoint
+conditional_point path taken b p =
+    if is_plain p.options then plain_point path taken b p (verified_line p)
     else breakpoint_at p.id path p.options (option_and_then (first_target b) p.line)
 
-abbrev pub conditional_points : Text → Board → List PlacedBreakpoint → List ConditionalBreakpoint
-conditional_points path b points = filter_map (conditional_point path b) points
+abbrev pub conditional_points : Text → List ℕ → Board → List PlacedBreakpoint → List ConditionalBreakpoint
+conditional_points path taken b points = filter_map (conditional_point path taken b) points

@@ -11,7 +11,8 @@ ghost use Rattle.dap_lines.specs.Conditions.{fault_text, value_objection, condit
 ghost use Rattle.dap_lines.specs.Conditions.{expression_objection, log_fault_text, message_objection};
 ghost use Rattle.dap_lines.specs.Conditions.{log_objection, first_objection, condition_read, log_read};
 ghost use Rattle.dap_lines.specs.Conditions.{hit_objection, hits_read, unhit, stop_at, stop_by};
-ghost use Rattle.dap_lines.specs.Conditions.{log_point, with_log, conditional_point};
+ghost use Rattle.dap_points.specs.Boards.{verified_line};
+ghost use Rattle.dap_lines.specs.Conditions.{log_point, with_log, own_stop, conditional_point};
 ghost use Rattle.dap_lines.specs.Conditions.{conditional_points};
 ghost use Rattle.dap_lines.specs.Targets as targets;
 
@@ -23,7 +24,7 @@ use base_text::text::Text;
 use dap_expr::expression::Expression;
 use dap_log::message::{LogFault, LogMessage};
 use dap_messages::message::{BreakpointNote, BreakpointOptions, GotoTarget, PlacedBreakpoint};
-use dap_points::board::is_plain;
+use dap_points::board::{is_plain, verified_line};
 use dap_slice::conditions::{ConditionalBreakpoint, ConditionalBreakpoints, LogPoint, Trigger};
 use dap_slice::hits::{HitCondition, Hits};
 use lab_core::lab::Lab;
@@ -73,8 +74,8 @@ fn text_objection(
     }
 }
 
-/// What there is to object to this condition, if there is one.
-pub fn condition_objection(
+// What there is to object to this condition, if there is one.
+fn condition_objection(
     alloc: Global,
     lab: &Lab,
     condition: &Option<Text>,
@@ -333,17 +334,57 @@ fn target_on(lab: &Lab, line: Option<u32>) -> Option<GotoTarget>
     first_target(lab, line?)
 }
 
+// The board's own breakpoint on a line.
+fn own_stop(id: u32, line: u32) -> ConditionalBreakpoint
+    ensures { result ≡ own_stop id line }
+{
+    ConditionalBreakpoint {
+        id,
+        trigger: Trigger::Line(line),
+        condition: None,
+        hits: None,
+        log: None,
+    }
+}
+
+// A breakpoint without options.
+fn plain_point(
+    alloc: Global,
+    lab: &Lab,
+    path: &Text,
+    taken: &[u32],
+    point: &PlacedBreakpoint,
+) -> Result<Option<ConditionalBreakpoint>, AllocError>
+    ensures { (b : Board) → RepresentsBoard lab.now b → IfOk result (λ found. found
+        ≡ conditions.plain_point path.now taken.now b point.now (verified_line point.now)) }
+{
+    let Some(line) = verified_line(point) else {
+        return Ok(None);
+    };
+    if taken.contains(&line) {
+        return Ok(Some(own_stop(point.id, line)));
+    }
+    breakpoint_at(
+        alloc,
+        point.id,
+        first_target(lab, line),
+        path,
+        &point.options,
+    )
+}
+
 fn conditional_point(
     alloc: Global,
     lab: &Lab,
     path: &Text,
+    taken: &[u32],
     point: &PlacedBreakpoint,
 ) -> Result<Option<ConditionalBreakpoint>, AllocError>
     ensures { (b : Board) → RepresentsBoard lab.now b
-        → IfOk result (λ found. found ≡ conditional_point path.now b point.now) }
+        → IfOk result (λ found. found ≡ conditional_point path.now taken.now b point.now) }
 {
     if is_plain(&point.options) {
-        return Ok(None);
+        return plain_point(alloc, lab, path, taken, point);
     }
     breakpoint_at(
         alloc,
@@ -354,7 +395,8 @@ fn conditional_point(
     )
 }
 
-fn push_point(
+/// Adds a breakpoint, if there is one.
+pub fn push_point(
     points: &mut ConditionalBreakpoints,
     point: Option<ConditionalBreakpoint>,
 ) -> Result<(), AllocError>
@@ -370,34 +412,37 @@ fn push_points(
     alloc: Global,
     lab: &Lab,
     path: &Text,
+    taken: &[u32],
     points: &mut ConditionalBreakpoints,
     placed: &[PlacedBreakpoint],
 ) -> Result<(), AllocError>
     ensures { (b : Board) → RepresentsBoard lab.now b
-        → OnOk result (points.new ≡ points.old ++ conditional_points path.now b placed.now) }
+        → OnOk result (points.new ≡ points.old ++ conditional_points path.now taken.now b placed.now) }
 {
     let mut left = placed;
     while let Some((point, later)) = left.split_first() {
-        push_point(points, conditional_point(alloc, lab, path, point)?)?;
+        push_point(points, conditional_point(alloc, lab, path, taken, point)?)?;
         left = later;
     }
     Ok(())
 }
 
-/// Those of these breakpoints of the source with this path that have options, first those on lines, then
-/// those at labels.
+/// Those of these breakpoints of the source with this path that are met, first those on lines, then those at
+/// labels. The board takes these lines.
 pub fn conditional_points(
     alloc: Global,
     lab: &Lab,
     path: &Text,
+    taken: &[u32],
     lines: &[PlacedBreakpoint],
     labels: &[PlacedBreakpoint],
 ) -> Result<ConditionalBreakpoints, AllocError>
     ensures { (b : Board) → RepresentsBoard lab.now b → IfOk result (λ points. points
-        ≡ conditional_points path.now b lines.now ++ conditional_points path.now b labels.now) }
+        ≡ conditional_points path.now taken.now b lines.now
+        ++ conditional_points path.now taken.now b labels.now) }
 {
     let mut points = ConditionalBreakpoints::new(alloc)?;
-    push_points(alloc, lab, path, &mut points, lines)?;
-    push_points(alloc, lab, path, &mut points, labels)?;
+    push_points(alloc, lab, path, taken, &mut points, lines)?;
+    push_points(alloc, lab, path, taken, &mut points, labels)?;
     Ok(points)
 }

@@ -1,7 +1,8 @@
 -- How deep messages nest.
 use Rattle.std.proofs.Common.{◌≤◌, ℕ, ◌==◌, if◌then◌else◌, Bool, true, false, Option, Some, None}
-use Rattle.std.proofs.Common.{List, [], ◌∷◌, ◌++◌, codes, refl, arith}
-use Rattle.serde_json.specs.Data.{boolean, string, depth}
+use Rattle.std.proofs.Common.{List, [], ◌∷◌, ◌++◌, map, codes, refl, arith}
+use Rattle.serde_json.specs.Data.{boolean, string, depth, items_depth}
+use Rattle.serde_json.specs.View.{items_of}
 use Rattle.dap_answers.specs.Json.{object_of, whole_number, reference, line_json}
 use Rattle.dap_answers.specs.declared.answer.Event.TheVariants as board
 use Rattle.dap_answers.proofs.DepthLemmas.{fits, items_within, body_is_shallow, event_is_shallow}
@@ -11,6 +12,8 @@ use Rattle.dap_messages.specs.declared.message.EditorBody.{EditorBody}
 use Rattle.dap_messages.specs.declared.message.EditorBody.TheVariants as body
 use Rattle.dap_messages.specs.declared.message.EditorOutcome.{EditorOutcome}
 use Rattle.dap_messages.specs.declared.message.EditorOutcome.TheVariants.{Success, Refused}
+use Rattle.dap_messages.specs.declared.message.BreakpointKind.{BreakpointKind}
+use Rattle.dap_messages.specs.declared.message.BreakpointKind.TheVariants as kind
 use Rattle.dap_messages.specs.declared.message.EditorStop.{EditorStop}
 use Rattle.dap_messages.specs.declared.message.EditorStop.TheVariants as stop
 use Rattle.dap_messages.specs.declared.message.OutputCategory.{OutputCategory}
@@ -21,7 +24,7 @@ use Rattle.dap_messages.specs.declared.message.Message.{Message}
 use Rattle.dap_messages.specs.declared.message.Message.TheVariants.{Response, Event}
 use Rattle.dap_messages.specs.Json.{address_members, line_members, note_members, placed_json, source_json}
 use Rattle.dap_messages.specs.Json.{data_members, data_json, editor_body_json, outcome_json, stopped_json}
-use Rattle.dap_messages.specs.Json.{output_json}
+use Rattle.dap_messages.specs.Json.{breakpoint_stop_json, output_json}
 use Rattle.dap_messages.specs.Json.{editor_event_json, message_json}
 
 placed_by : (id : ℕ) (address line : Option ℕ) (note : Option BreakpointNote) (is_verified : Bool)
@@ -75,8 +78,16 @@ stopped seq stop.Entry = fits _ 6 refl
 stopped seq stop.Goto = fits _ 6 refl
 stopped seq stop.Halted = fits _ 6 refl
 stopped seq (stop.Exception u) = fits _ 6 refl
-stopped seq (stop.Data c) = fits _ 6 refl
 stopped seq (stop.Board reason) = event_is_shallow seq (board.Stopped reason)
+
+numbered : (ids : List ℕ) → items_depth (items_of (map whole_number ids)) ≤ 0
+numbered ids = items_within 0 whole_number (λ id. fits _ 0 refl) ids
+
+hit : (k : BreakpointKind) (ids : List ℕ) → depth (breakpoint_stop_json (record { kind = k; ids = ids })) ≤ 5
+hit kind.Line ids = let h = numbered ids in omega (arith, h)
+hit kind.Label ids = let h = numbered ids in omega (arith, h)
+hit (kind.Data c) ids = let h = numbered ids in omega (arith, h)
+hit kind.Instruction ids = let h = numbered ids in omega (arith, h)
 
 in_output : (category : OutputCategory) (bytes : List ℕ) (place : Option SourcePlace)
     → depth (output_json category bytes place) ≤ 2
@@ -85,6 +96,7 @@ in_output category bytes (Some place) = fits _ 2 refl
 
 in_event : (seq : ℕ) (e : EditorEvent) → depth (editor_event_json seq e) ≤ 6
 in_event seq (event.Stopped s) = stopped seq s
+in_event seq (event.StoppedAt s) = let h = hit s.kind s.ids in omega (arith, h)
 in_event seq (event.Output category bytes place) =
     let h = in_output category bytes place in omega (arith, h)
 in_event seq (event.Breakpoint b) = let h = placed b in omega (arith, h)

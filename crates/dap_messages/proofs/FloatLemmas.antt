@@ -12,6 +12,8 @@ use Rattle.dap_messages.specs.declared.message.EditorBody.{EditorBody}
 use Rattle.dap_messages.specs.declared.message.EditorBody.TheVariants as body
 use Rattle.dap_messages.specs.declared.message.EditorOutcome.{EditorOutcome}
 use Rattle.dap_messages.specs.declared.message.EditorOutcome.TheVariants.{Success, Refused}
+use Rattle.dap_messages.specs.declared.message.BreakpointKind.{BreakpointKind}
+use Rattle.dap_messages.specs.declared.message.BreakpointKind.TheVariants as kind
 use Rattle.dap_messages.specs.declared.message.EditorStop.{EditorStop}
 use Rattle.dap_messages.specs.declared.message.EditorStop.TheVariants as stop
 use Rattle.dap_messages.specs.declared.message.OutputCategory.{OutputCategory}
@@ -22,7 +24,7 @@ use Rattle.dap_messages.specs.declared.message.Message.{Message}
 use Rattle.dap_messages.specs.declared.message.Message.TheVariants.{Response, Event}
 use Rattle.dap_messages.specs.Json.{address_members, line_members, note_members, placed_json, source_json}
 use Rattle.dap_messages.specs.Json.{data_members, data_json, editor_body_json, outcome_json, stopped_json}
-use Rattle.dap_messages.specs.Json.{output_json}
+use Rattle.dap_messages.specs.Json.{breakpoint_stop_json, output_json}
 use Rattle.dap_messages.specs.Json.{editor_event_json, message_json}
 
 placed_by : (id : ℕ) (address line : Option ℕ) (note : Option BreakpointNote) (is_verified : Bool)
@@ -74,8 +76,14 @@ stopped seq stop.Entry = refl
 stopped seq stop.Goto = refl
 stopped seq stop.Halted = refl
 stopped seq (stop.Exception u) = refl
-stopped seq (stop.Data c) = refl
 stopped seq (stop.Board reason) = event_has_no_float seq (board.Stopped reason)
+
+hit : (k : BreakpointKind) (ids : List ℕ)
+    → has_float (breakpoint_stop_json (record { kind = k; ids = ids })) ≡ false
+hit kind.Line ids = rw (no_float_in whole_number (λ id. refl) ids) refl
+hit kind.Label ids = rw (no_float_in whole_number (λ id. refl) ids) refl
+hit (kind.Data c) ids = rw (no_float_in whole_number (λ id. refl) ids) refl
+hit kind.Instruction ids = rw (no_float_in whole_number (λ id. refl) ids) refl
 
 in_output : (category : OutputCategory) (bytes : List ℕ) (place : Option SourcePlace)
     → has_float (output_json category bytes place) ≡ false
@@ -84,6 +92,7 @@ in_output category bytes (Some place) = refl
 
 in_event : (seq : ℕ) (e : EditorEvent) → has_float (editor_event_json seq e) ≡ false
 in_event seq (event.Stopped s) = stopped seq s
+in_event seq (event.StoppedAt s) = rw (hit s.kind s.ids) refl
 in_event seq (event.Output category bytes place) = rw (in_output category bytes place) refl
 in_event seq (event.Breakpoint b) = rw (placed b) refl
 in_event seq _ = refl

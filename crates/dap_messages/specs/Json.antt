@@ -47,6 +47,9 @@ use Rattle.dap_messages.specs.declared.message.EditorBody.TheVariants as body
 use Rattle.dap_messages.specs.declared.message.EditorOutcome.{EditorOutcome}
 use Rattle.dap_messages.specs.declared.message.EditorOutcome.TheVariants.{Success, Refused}
 use Rattle.dap_messages.specs.declared.message.EditorResponse.{EditorResponse}
+use Rattle.dap_messages.specs.declared.message.BreakpointKind.{BreakpointKind}
+use Rattle.dap_messages.specs.declared.message.BreakpointKind.TheVariants as kind
+use Rattle.dap_messages.specs.declared.message.BreakpointStop.{BreakpointStop}
 use Rattle.dap_messages.specs.declared.message.EditorStop.{EditorStop}
 use Rattle.dap_messages.specs.declared.message.EditorStop.TheVariants as stop
 use Rattle.dap_messages.specs.declared.message.OutputCategory.{OutputCategory}
@@ -78,7 +81,6 @@ note_text (note.Wrong why) = why
 note_text note.NotText = codes "conditions and log messages must be texts"
 note_text note.NoLabel = codes "the program has no such label"
 note_text note.NoAddress = codes "there is no such address"
-note_text note.TooMany = codes "more than 256 breakpoints"
 note_text note.TooManyData = codes "more than 16 data breakpoints"
 
 abbrev pub note_members : Option BreakpointNote → List (Text × Data)
@@ -286,19 +288,29 @@ abbrev pub change_text : PlaceChange → Text
 change_text c = place_name c.place ++ (codes ": " ++ (place_value_text c.place c.after ++
     (codes ", was " ++ (place_value_text c.place c.before ++ (codes ", by " ++ upper_word c.by)))))
 
-abbrev pub changed_stop_json : PlaceChange → Data
-changed_stop_json c = object_of (
-    (codes "allThreadsStopped", boolean true) ∷
-    (codes "description", string (change_text c)) ∷
-    (codes "reason", string (codes "data breakpoint")) ∷
-    (codes "threadId", whole_number 1) ∷ [])
+abbrev pub kind_reason : BreakpointKind → Text
+kind_reason kind.Line = codes "breakpoint"
+kind_reason kind.Label = codes "function breakpoint"
+kind_reason (kind.Data c) = codes "data breakpoint"
+kind_reason kind.Instruction = codes "instruction breakpoint"
+
+-- a change is described
+abbrev pub kind_members : BreakpointKind → List (Text × Data)
+kind_members (kind.Data c) = (codes "description", string (change_text c)) ∷ []
+kind_members other = []
+
+abbrev pub breakpoint_stop_json : BreakpointStop → Data
+breakpoint_stop_json s = object_of (
+    (codes "allThreadsStopped", boolean true) ∷ kind_members s.kind ++ (
+    (codes "hitBreakpointIds", list_of whole_number s.ids) ∷
+    (codes "reason", string (kind_reason s.kind)) ∷
+    (codes "threadId", whole_number 1) ∷ []))
 
 abbrev pub stopped_json : ℕ → EditorStop → Data
 stopped_json seq stop.Entry = event_with_body seq (codes "stopped") (bare_stop_json (codes "entry"))
 stopped_json seq stop.Goto = event_with_body seq (codes "stopped") (bare_stop_json (codes "goto"))
 stopped_json seq stop.Halted = event_with_body seq (codes "stopped") halted_json
 stopped_json seq (stop.Exception u) = event_with_body seq (codes "stopped") (stopped_at_json u)
-stopped_json seq (stop.Data c) = event_with_body seq (codes "stopped") (changed_stop_json c)
 stopped_json seq (stop.Board reason) = event_json seq (board.Stopped reason)
 
 abbrev pub category_text : OutputCategory → Text
@@ -355,6 +367,7 @@ exited_json code = object_of ((codes "exitCode", whole_number code) ∷ [])
 abbrev pub editor_event_json : ℕ → EditorEvent → Data
 editor_event_json seq event.Initialized = event_json seq board.Initialized
 editor_event_json seq (event.Stopped reason) = stopped_json seq reason
+editor_event_json seq (event.StoppedAt s) = event_with_body seq (codes "stopped") (breakpoint_stop_json s)
 editor_event_json seq event.Continued = event_json seq board.Continued
 editor_event_json seq (event.Output category bytes place) =
     event_with_body seq (codes "output") (output_json category bytes place)

@@ -111,7 +111,6 @@ fn note_text(alloc: Global, note: &BreakpointNote) -> Result<Text, AllocError>
         }
         BreakpointNote::NoLabel => text.push_str("the program has no such label")?,
         BreakpointNote::NoAddress => text.push_str("there is no such address")?,
-        BreakpointNote::TooMany => text.push_str("more than 256 breakpoints")?,
         BreakpointNote::TooManyData => text.push_str("more than 16 data breakpoints")?,
     }
     Ok(Text::from(text))

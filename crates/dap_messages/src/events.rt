@@ -1,12 +1,13 @@
 //! The JSON of events.
-ghost use Rattle.std.specs.Prelude.{◌≡◌, IfOk, OnOk, [], ◌∷◌, ◌++◌, codes, string_bytes};
-ghost use Rattle.serde_json.specs.Data.{string};
+ghost use Rattle.std.specs.Prelude.{◌≡◌, IfOk, OnOk, [], ◌∷◌, ◌++◌, codes, string_bytes, true};
+ghost use Rattle.serde_json.specs.Data.{string, boolean};
 ghost use Rattle.serde_json.specs.View.{view};
-ghost use Rattle.dap_answers.specs.Json.{object_of, list_of};
+ghost use Rattle.dap_answers.specs.Json.{object_of, list_of, whole_number};
 ghost use Rattle.dap_answers.specs.Object.{HasMembers};
 ghost use Rattle.dap_answers.specs.Json.{members_from};
 ghost use Rattle.dap_messages.specs.Json.{bare_stop_json, halted_json, stopped_at_json, stopped_json};
-ghost use Rattle.dap_messages.specs.Json.{place_name, place_value_text, change_text, changed_stop_json};
+ghost use Rattle.dap_messages.specs.Json.{place_name, place_value_text, change_text};
+ghost use Rattle.dap_messages.specs.Json.{kind_reason, breakpoint_stop_json};
 ghost use Rattle.dap_messages.specs.Json.{bare_output, placed_output};
 ghost use Rattle.dap_messages.specs.Json.{invalidated_json, memory_changed_json};
 ghost use Rattle.dap_messages.specs.Json.{output_json, log_json, changed_json, exited_json};
@@ -14,7 +15,8 @@ ghost use Rattle.dap_messages.specs.Json.{editor_event_json};
 
 use crate::bodies::{exception_text, source};
 use crate::message::{
-    EditorEvent, EditorStop, OutputCategory, PlacedBreakpoint, SourcePlace, UndefinedOpcode,
+    BreakpointKind, BreakpointStop, EditorEvent, EditorStop, OutputCategory, PlacedBreakpoint,
+    SourcePlace, UndefinedOpcode,
 };
 use base_text::hexadecimal::{push_byte, push_word};
 use base_text::latin;
@@ -117,16 +119,57 @@ fn change_text(alloc: Global, change: PlaceChange) -> Result<Text, AllocError>
     Ok(Text::from(text))
 }
 
-fn changed_body(alloc: Global, change: PlaceChange) -> Result<Value, AllocError>
-    ensures { IfOk result (λ v. view v ≡ changed_stop_json change) }
+fn kind_reason(kind: BreakpointKind) -> &'static str
+    ensures { result.now ≡ kind_reason kind }
 {
-    let text = change_text(alloc, change)?;
-    Object::new(alloc)
-        .text("reason", "data breakpoint")
-        .text("description", text.as_str())
-        .number("threadId", 1)
-        .flag("allThreadsStopped", true)
-        .finish()
+    match kind {
+        BreakpointKind::Line => "breakpoint",
+        BreakpointKind::Label => "function breakpoint",
+        BreakpointKind::Data(_) => "data breakpoint",
+        BreakpointKind::Instruction => "instruction breakpoint",
+    }
+}
+
+fn every_id(alloc: Global, ids: &[u32]) -> Result<Value, AllocError>
+    ensures { IfOk result (λ v. view v ≡ list_of whole_number ids.now) }
+{
+    let mut values = Vec::new(alloc);
+    for id in ids {
+        values.push(Value::from(u64::from(*id)))?;
+    }
+    Ok(Value::from(values))
+}
+
+// The members of every stop at breakpoints, without a description.
+fn bare_breakpoint_stop(alloc: Global, stop: &BreakpointStop) -> Result<Object, AllocError>
+    ensures { IfOk result (λ o. HasMembers o (members_from ((codes "allThreadsStopped", boolean true) ∷
+        (codes "hitBreakpointIds", list_of whole_number stop.now.ids) ∷
+        (codes "reason", string (kind_reason stop.now.kind)) ∷
+        (codes "threadId", whole_number 1) ∷ []))) }
+{
+    let ids = every_id(alloc, stop.ids.as_slice())?;
+    Ok(
+        Object::new(alloc)
+            .text("reason", kind_reason(stop.kind))
+            .value("hitBreakpointIds", ids)
+            .number("threadId", 1)
+            .flag("allThreadsStopped", true),
+    )
+}
+
+fn breakpoint_stop(alloc: Global, stop: &BreakpointStop) -> Result<Value, AllocError>
+    ensures { IfOk result (λ v. view v ≡ breakpoint_stop_json stop.now) }
+{
+    let bare = bare_breakpoint_stop(alloc, stop)?;
+    match stop.kind {
+        BreakpointKind::Data(change) => {
+            let text = change_text(alloc, change)?;
+            bare.text("description", text.as_str()).finish()
+        }
+        BreakpointKind::Line | BreakpointKind::Label | BreakpointKind::Instruction => {
+            bare.finish()
+        }
+    }
 }
 
 fn stopped(alloc: Global, seq: u64, reason: EditorStop) -> Result<Value, AllocError>
@@ -138,9 +181,6 @@ fn stopped(alloc: Global, seq: u64, reason: EditorStop) -> Result<Value, AllocEr
         EditorStop::Halted => event_with_body(alloc, seq, "stopped", halted_body(alloc)?),
         EditorStop::Exception(undefined) => {
             event_with_body(alloc, seq, "stopped", stopped_at_body(alloc, undefined)?)
-        }
-        EditorStop::Data(change) => {
-            event_with_body(alloc, seq, "stopped", changed_body(alloc, change)?)
         }
         EditorStop::Board(reason) => event(alloc, seq, Event::Stopped(reason)),
     }
@@ -261,6 +301,9 @@ pub fn editor_event_json(
     match message {
         EditorEvent::Initialized => event(alloc, seq, Event::Initialized),
         EditorEvent::Stopped(reason) => stopped(alloc, seq, *reason),
+        EditorEvent::StoppedAt(stop) => {
+            event_with_body(alloc, seq, "stopped", breakpoint_stop(alloc, stop)?)
+        }
         EditorEvent::Continued => event(alloc, seq, Event::Continued),
         EditorEvent::Output {
             category,

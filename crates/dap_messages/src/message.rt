@@ -20,7 +20,6 @@ pub enum BreakpointNote {
     NotText,
     NoLabel,
     NoAddress,
-    TooMany,
     TooManyData,
 }
 
@@ -132,9 +131,25 @@ pub enum EditorStop {
     Exception(UndefinedOpcode),
     /// Where PC was set.
     Goto,
-    /// Behind an instruction that changed a watched place. The values are bytes unless the place is SP or PC.
-    Data(PlaceChange),
     Board(StopReason),
+}
+
+/// What a breakpoint is on.
+#[derive(Clone, Copy)]
+pub enum BreakpointKind {
+    Line,
+    Label,
+    /// Data that an instruction has just changed. The values are bytes unless the place is SP or PC.
+    Data(PlaceChange),
+    Instruction,
+}
+
+/// A stop at breakpoints.
+#[derive(Drop)]
+pub struct BreakpointStop {
+    pub kind: BreakpointKind,
+    /// The numbers of all breakpoints that stop the program there, each once.
+    pub ids: Sequence<u32>,
 }
 
 /// The kind of an output.
@@ -160,6 +175,7 @@ pub struct SourcePlace {
 pub enum EditorEvent {
     Initialized,
     Stopped(EditorStop),
+    StoppedAt(BreakpointStop),
     Continued,
     /// Each byte is the character with that code point.
     Output {

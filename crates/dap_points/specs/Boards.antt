@@ -1,5 +1,5 @@
 -- The lines at which a board stops.
-use Rattle.std.specs.Prelude.{ℕ, ◌-◌, List, ◌++◌, length, Bool, ◌&&◌, Option, None, is_none, if◌then◌else◌}
+use Rattle.std.specs.Prelude.{ℕ, List, ◌++◌, take, Bool, ◌&&◌, Option, None, is_none, if◌then◌else◌}
 use Rattle.std.specs.List.{filter_map}
 use Rattle.dap_messages.specs.declared.message.BreakpointOptions.{BreakpointOptions}
 use Rattle.dap_messages.specs.declared.message.PlacedBreakpoint.{PlacedBreakpoint}
@@ -7,13 +7,6 @@ use Rattle.dap_messages.specs.declared.message.PlacedBreakpoint.{PlacedBreakpoin
 -- the line of a verified breakpoint
 abbrev pub verified_line : PlacedBreakpoint → Option ℕ
 verified_line p = if p.is_verified then p.line else None
-
-abbrev pub verified_lines : List PlacedBreakpoint → List ℕ
-verified_lines points = filter_map verified_line points
-
--- the number of labels for which there is room beside the breakpoints on lines
-abbrev pub room_behind : List PlacedBreakpoint → ℕ
-room_behind lines = 256 - length (verified_lines lines)
 
 -- it has no options
 abbrev pub is_plain : BreakpointOptions → Bool
@@ -26,6 +19,10 @@ plain_line p = if is_plain p.options then verified_line p else None
 abbrev pub plain_lines : List PlacedBreakpoint → List ℕ
 plain_lines points = filter_map plain_line points
 
--- those on lines, then those at labels
+-- of those on lines, then of those at labels
 abbrev pub wanted_lines : List PlacedBreakpoint → List PlacedBreakpoint → List ℕ
 wanted_lines lines labels = plain_lines lines ++ plain_lines labels
+
+-- A board takes 256 lines. At others a debugger stops it.
+abbrev pub board_lines : List PlacedBreakpoint → List PlacedBreakpoint → List ℕ
+board_lines lines labels = take 256 (wanted_lines lines labels)

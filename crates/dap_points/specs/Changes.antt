@@ -15,7 +15,6 @@ is_same_note (note.Wrong why) (note.Wrong why') = bytes_eq why why'
 is_same_note note.NotText note.NotText = true
 is_same_note note.NoLabel note.NoLabel = true
 is_same_note note.NoAddress note.NoAddress = true
-is_same_note note.TooMany note.TooMany = true
 is_same_note note.TooManyData note.TooManyData = true
 is_same_note n n' = false
 

@@ -1,6 +1,6 @@
 -- Breakpoints as an editor is told of them: their numbers, where each is met, or why it isn't (Debug Adapter
 -- Protocol, "Breakpoint").
-use Rattle.std.specs.Prelude.{ℕ, ◌+◌, ◌*◌, ◌-◌, ◌==◌, List, [], ◌∷◌, Bool, true, false, if◌then◌else◌}
+use Rattle.std.specs.Prelude.{ℕ, ◌+◌, ◌*◌, ◌==◌, List, [], ◌∷◌, Bool, true, false, if◌then◌else◌}
 use Rattle.std.specs.Prelude.{nat_lt, Option, Some, None}
 use Rattle.dap_editor.specs.declared.request.DataBreakpoint.{DataBreakpoint}
 use Rattle.dap_editor.specs.declared.request.LineBreakpoint.{LineBreakpoint}
@@ -99,29 +99,21 @@ other_points why number index (b ∷ bs) =
 
 -- ---- at labels
 
--- with room for so many, at a label on this line, if the program has it
-abbrev pub at_label : ℕ → ℕ → BreakpointOptions → Option ℕ → PlacedBreakpoint
-at_label id room options None = unmet_at id None note.NoLabel
-at_label id room options (Some line) =
-    if room == 0 then unmet_at id (Some line) note.TooMany else met_at id line options None
+-- at a label on this line, if the program has it
+abbrev pub at_label : ℕ → BreakpointOptions → Option ℕ → PlacedBreakpoint
+at_label id options None = unmet_at id None note.NoLabel
+at_label id options (Some line) = met_at id line options None
 
 -- unless there is something to object to it
-abbrev pub label_point_unless : Option BreakpointNote → ℕ → ℕ → FoundLabel → PlacedBreakpoint
-label_point_unless None id room l = at_label id room l.options l.line
-label_point_unless (Some why) id room l = unmet_at id l.line why
+abbrev pub label_point_unless : Option BreakpointNote → ℕ → FoundLabel → PlacedBreakpoint
+label_point_unless None id l = at_label id l.options l.line
+label_point_unless (Some why) id l = unmet_at id l.line why
 
-abbrev pub label_point : ℕ → ℕ → FoundLabel → PlacedBreakpoint
-label_point id room l = label_point_unless l.objection id room l
+abbrev pub label_point : ℕ → FoundLabel → PlacedBreakpoint
+label_point index l = label_point_unless l.objection (id_at 0 index) l
 
--- the room behind a breakpoint
-abbrev pub room_after : ℕ → PlacedBreakpoint → ℕ
-room_after room p = if p.is_verified then room - 1 else room
-
-abbrev pub label_points : ℕ → ℕ → List FoundLabel → List PlacedBreakpoint
-label_points room index [] = []
-label_points room index (l ∷ ls) =
-    label_point (id_at 0 index) room l
-    ∷ label_points (room_after room (label_point (id_at 0 index) room l)) (index + 1) ls
+abbrev pub label_points : ℕ → List FoundLabel → List PlacedBreakpoint
+label_points index ls = points_by label_point index ls
 
 -- ---- on data
 

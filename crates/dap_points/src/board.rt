@@ -1,14 +1,14 @@
 //! The lines at which a board stops.
 ghost use Rattle.std.specs.Prelude.{◌≡◌, ◌≤◌, ◌++◌, length, IfOk, OnOk, option_to_list};
-ghost use Rattle.dap_points.specs.Boards.{verified_line, verified_lines, room_behind, is_plain, plain_line};
-ghost use Rattle.dap_points.specs.Boards.{plain_lines, wanted_lines};
+ghost use Rattle.dap_points.specs.Boards.{verified_line, is_plain, plain_line, plain_lines, board_lines};
 
 use crate::points::MOST_POINTS;
 use base_text::sequence::Sequence;
 use dap_messages::message::{BreakpointOptions, PlacedBreakpoint};
 use std::alloc::{AllocError, Global};
 
-fn verified_line(point: &PlacedBreakpoint) -> Option<u32>
+/// The line of a verified breakpoint.
+pub fn verified_line(point: &PlacedBreakpoint) -> Option<u32>
     ensures { result ≡ verified_line point.now }
 {
     if point.is_verified { point.line } else { None }
@@ -41,17 +41,6 @@ fn push_line(lines: &mut Sequence<u32>, line: Option<u32>) -> Result<(), AllocEr
     Ok(())
 }
 
-fn push_verified(lines: &mut Sequence<u32>, points: &[PlacedBreakpoint]) -> Result<(), AllocError>
-    ensures { OnOk result (lines.new ≡ lines.old ++ verified_lines points.now) }
-{
-    let mut left = points;
-    while let Some((point, later)) = left.split_first() {
-        push_line(lines, verified_line(point))?;
-        left = later;
-    }
-    Ok(())
-}
-
 fn push_plain(lines: &mut Sequence<u32>, points: &[PlacedBreakpoint]) -> Result<(), AllocError>
     ensures { OnOk result (lines.new ≡ lines.old ++ plain_lines points.now) }
 {
@@ -63,25 +52,19 @@ fn push_plain(lines: &mut Sequence<u32>, points: &[PlacedBreakpoint]) -> Result<
     Ok(())
 }
 
-/// The number of labels for which there is room beside the breakpoints on lines.
-pub fn room_behind(alloc: Global, lines: &[PlacedBreakpoint]) -> Result<usize, AllocError>
-    ensures { IfOk result (λ room. room ≡ room_behind lines.now) }
-{
-    let mut verified = Sequence::new(alloc);
-    push_verified(&mut verified, lines)?;
-    Ok(MOST_POINTS.saturating_sub(verified.len()))
-}
-
-/// The lines at which a board stops: of verified breakpoints without options, first those on lines.
-pub fn wanted_lines(
+/// The lines at which a board stops: of verified breakpoints without options, first those on lines. It takes
+/// the first 256.
+pub fn board_lines(
     alloc: Global,
     lines: &[PlacedBreakpoint],
     labels: &[PlacedBreakpoint],
 ) -> Result<Sequence<u32>, AllocError>
-    ensures { IfOk result (λ all. all ≡ wanted_lines lines.now labels.now) }
+    ensures lines { IfOk result (λ all. all ≡ board_lines lines.now labels.now) }
+    ensures few { IfOk result (λ all. length all ≤ 256) }
 {
     let mut all = Sequence::new(alloc);
     push_plain(&mut all, lines)?;
     push_plain(&mut all, labels)?;
+    all.truncate(MOST_POINTS);
     Ok(all)
 }

@@ -19,7 +19,6 @@ pub fn is_same_note(first: &BreakpointNote, second: &BreakpointNote) -> bool
         | (BreakpointNote::NotText, BreakpointNote::NotText)
         | (BreakpointNote::NoLabel, BreakpointNote::NoLabel)
         | (BreakpointNote::NoAddress, BreakpointNote::NoAddress)
-        | (BreakpointNote::TooMany, BreakpointNote::TooMany)
         | (BreakpointNote::TooManyData, BreakpointNote::TooManyData) => true,
         _ => false,
     }

@@ -3,8 +3,8 @@ ghost use Rattle.std.specs.Prelude.{◌≡◌, ◌<◌, ◌≤◌, ◌+◌, ℕ,
 ghost use Rattle.dap_messages.specs.declared.message.PlacedBreakpoint.{PlacedBreakpoint};
 ghost use Rattle.dap_points.specs.Placed.{id_at, met_at, unmet_at, moved_note, landed_point, line_point};
 ghost use Rattle.dap_points.specs.Placed.{line_points};
-ghost use Rattle.dap_points.specs.Placed.{why_unmet, other_points, at_label, label_point};
-ghost use Rattle.dap_points.specs.Placed.{room_after, label_points, met_where, points_by};
+ghost use Rattle.dap_points.specs.Placed.{why_unmet, other_points, label_point, label_points};
+ghost use Rattle.dap_points.specs.Placed.{met_where, points_by};
 ghost use Rattle.dap_points.specs.Placed.{data_point, data_points, instruction_point, instruction_points};
 ghost use Rattle.dap_points.specs.Placed.{unlaunched_at, unlaunched_label, unlaunched_labels};
 ghost use Rattle.dap_points.specs.Placed.{unlaunched_datum, unlaunched_data};
@@ -54,16 +54,16 @@ pub struct CheckedInstruction {
 }
 
 /// The number of the list of labels, where a source has its own.
-const LABEL_NUMBER: u32 = 0;
+pub const LABEL_NUMBER: u32 = 0;
 
 /// The number of the list of breakpoints on data.
-const DATA_NUMBER: u32 = 1025;
+pub const DATA_NUMBER: u32 = 1025;
 
 /// The number of the list of breakpoints at instructions.
-const INSTRUCTION_NUMBER: u32 = 1026;
+pub const INSTRUCTION_NUMBER: u32 = 1026;
 
 /// How many places at most are watched: the first ones of a request.
-pub const MOST_DATA: usize = 16;
+const MOST_DATA: usize = 16;
 
 /// Of a breakpoint that is never met.
 const NO_OPTIONS: BreakpointOptions = BreakpointOptions {
@@ -200,63 +200,6 @@ pub fn other_points(
     Ok(points)
 }
 
-fn at_label(
-    id: u32,
-    room: usize,
-    options: &BreakpointOptions,
-    line: Option<u32>,
-) -> Result<PlacedBreakpoint, AllocError>
-    ensures { IfOk result (λ point. point ≡ at_label id room options.now line) }
-{
-    match line {
-        None => Ok(unmet_at(id, None, BreakpointNote::NoLabel)),
-        Some(line) if room == 0 => Ok(unmet_at(id, Some(line), BreakpointNote::TooMany)),
-        Some(line) => Ok(met_at(id, line, options.clone()?, None)),
-    }
-}
-
-fn label_point(id: u32, room: usize, label: &FoundLabel) -> Result<PlacedBreakpoint, AllocError>
-    ensures { IfOk result (λ point. point ≡ label_point id room label.now) }
-{
-    match &label.objection {
-        None => at_label(id, room, &label.options, label.line),
-        Some(why) => Ok(unmet_at(id, label.line, why.clone()?)),
-    }
-}
-
-fn room_after(room: usize, point: &PlacedBreakpoint) -> usize
-    ensures { result ≡ room_after room point.now }
-{
-    if point.is_verified {
-        room.saturating_sub(1)
-    } else {
-        room
-    }
-}
-
-/// The breakpoints at labels of the program, of which so many can be verified.
-pub fn label_points(
-    alloc: Global,
-    room: usize,
-    labels: &[FoundLabel],
-) -> Result<Sequence<PlacedBreakpoint>, AllocError>
-    requires { length labels.now ≤ 256 }
-    ensures { IfOk result (λ points. points ≡ label_points room 0 labels.now) }
-{
-    let mut points = Sequence::new(alloc);
-    let mut index = 0;
-    let mut free = room;
-    let mut left = labels;
-    while let Some((label, later)) = left.split_first() {
-        let point = label_point(id_at(LABEL_NUMBER, index), free, label)?;
-        free = room_after(free, &point);
-        points.push(point)?;
-        index += 1;
-        left = later;
-    }
-    Ok(points)
-}
-
 // ---- breakpoints beside the lines
 
 // A breakpoint that is met at this address, or on data.
@@ -299,6 +242,30 @@ fn listed_points<T: Listed>(
         left = later;
     }
     Ok(points)
+}
+
+impl Listed for FoundLabel {
+    ghost point = { label_point };
+
+    fn point(&self, index: usize) -> Result<PlacedBreakpoint, AllocError> {
+        let id = id_at(LABEL_NUMBER, index);
+        match (&self.objection, self.line) {
+            (Some(why), line) => Ok(unmet_at(id, line, why.clone()?)),
+            (None, None) => Ok(unmet_at(id, None, BreakpointNote::NoLabel)),
+            (None, Some(line)) => Ok(met_at(id, line, self.options.clone()?, None)),
+        }
+    }
+}
+
+/// The breakpoints at labels of the program.
+pub fn label_points(
+    alloc: Global,
+    labels: &[FoundLabel],
+) -> Result<Sequence<PlacedBreakpoint>, AllocError>
+    requires { length labels.now ≤ 256 }
+    ensures { IfOk result (λ points. points ≡ label_points 0 labels.now) }
+{
+    listed_points(alloc, labels)
 }
 
 impl Listed for CheckedData {

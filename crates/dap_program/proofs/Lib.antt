@@ -1,4 +1,3 @@
 pub mod ChangeLemmas
 pub mod LoadLemmas
 pub mod SliceLemmas
-pub mod LineLemmas

@@ -13,7 +13,7 @@ use Rattle.dap_messages.specs.declared.message.Message.{Message}
 use Rattle.dap_slice.specs.declared.conditions.ConditionalBreakpoint.{ConditionalBreakpoint}
 use Rattle.dap_slice.specs.declared.logs.LogLine.{LogLine}
 use Rattle.dap_slice.specs.Logs.{logs_on, logs_before}
-use Rattle.dap_slice.specs.SliceEnds.{change_after}
+use Rattle.dap_slice.specs.SliceEnds.{change_after, ids_after}
 use Rattle.dap_program.specs.Messages.{as_messages}
 use Rattle.dap_program.specs.Ends.{held_at_end}
 use Rattle.dap_program.specs.Slices.{SliceContext, IsSliceOf, asks_line, log_events, run_events}
@@ -63,30 +63,33 @@ told_slice points b k lines run logs messages result found logs_are ran is = by 
 
 -- a slice whose parts are these
 pub is_slice : (end : ℕ × SliceOutcome) (c : SliceContext) (b : Board) (k : ℕ) (t u : List PortOperation)
-    (change : Option PlaceChange) (o : SliceOutcome) (asks : Bool) (told : List Message) (new : LabState)
+    (change : Option PlaceChange) (ids : List ℕ) (o : SliceOutcome) (asks : Bool) (told : List Message)
+    (new : LabState)
     → k ≡ end.0 → t ≡ traffic_of end.0 b → u ≡ traffic_of end.0 b → change ≡ change_after c.points end b
-    → o ≡ end.1 → asks ≡ asks_line c.has_asked k t
+    → ids ≡ ids_after c.points end b → o ≡ end.1 → asks ≡ asks_line c.has_asked k t
     → told ≡ as_messages (log_events (logs_before c.points k b)
-    ++ run_events asks u (outcome_events c.held change o))
+    ++ run_events asks u (outcome_events c.held change ids o))
     → RepresentsBoard new (held_at_end c.held o (left_by end.1 (after_steps end.0 b)))
     → IsSliceOf end c b (record { messages = told; executed = k; asks_line = asks; outcome = o }) new
-is_slice end c b k t u change o asks told new count t_is u_is seen how asked is represents =
+is_slice end c b k t u change ids o asks told new count t_is u_is seen numbered how asked is represents =
     let A : ℕ → List PortOperation → Bool = λ n w. asks_line c.has_asked n w in
     let asks_is : asks ≡ A end.0 (traffic_of end.0 b) =
     asked ∙ (ap (λ n. A n t) count ∙ ap (λ w. A end.0 w) t_is) in
     let M : ℕ → Bool → List PortOperation → List EditorEvent → List Message =
     λ n a w es. as_messages (log_events (logs_before c.points n b) ++ run_events a w es) in
-    let events : outcome_events c.held change o
-    ≡ outcome_events c.held (change_after c.points end b) end.1 =
-    ap (λ s. outcome_events c.held s o) seen
-    ∙ ap (λ e. outcome_events c.held (change_after c.points end b) e) how in
+    let seen_change = change_after c.points end b in
+    let seen_ids = ids_after c.points end b in
+    let events : outcome_events c.held change ids o ≡ outcome_events c.held seen_change seen_ids end.1 =
+    ap (λ s. outcome_events c.held s ids o) seen
+    ∙ (ap (λ i. outcome_events c.held seen_change i o) numbered
+    ∙ ap (λ e. outcome_events c.held seen_change seen_ids e) how) in
     record {
       executed = count;
       asks = asks_is;
       messages =
-          is ∙ (ap (λ n. M n asks u (outcome_events c.held change o)) count
-          ∙ (ap (λ a. M end.0 a u (outcome_events c.held change o)) asks_is
-          ∙ (ap (λ w. M end.0 (A end.0 (traffic_of end.0 b)) w (outcome_events c.held change o)) u_is
+          is ∙ (ap (λ n. M n asks u (outcome_events c.held change ids o)) count
+          ∙ (ap (λ a. M end.0 a u (outcome_events c.held change ids o)) asks_is
+          ∙ (ap (λ w. M end.0 (A end.0 (traffic_of end.0 b)) w (outcome_events c.held change ids o)) u_is
           ∙ ap (λ es. M end.0 (A end.0 (traffic_of end.0 b)) (traffic_of end.0 b) es) events)));
       outcome = how;
       represents =

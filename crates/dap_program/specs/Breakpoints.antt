@@ -1,5 +1,5 @@
 -- The breakpoints of a program on its board (Debug Adapter Protocol, "Breakpoints").
-use Rattle.std.specs.Prelude.{ℕ, List, map, take, Option, option_map}
+use Rattle.std.specs.Prelude.{ℕ, List, map, Option, option_map}
 use Rattle.base_text.specs.Bytes.{Text}
 use Rattle.lab_core.specs.declared.event.Event.TheVariants.{SetBreakpoints}
 use Rattle.lab_core.specs.Board.{Board}
@@ -9,7 +9,6 @@ use Rattle.dap_editor.specs.declared.request.FunctionBreakpoint.{FunctionBreakpo
 use Rattle.dap_inspect.specs.Labels.{line_of_label}
 use Rattle.dap_points.specs.declared.placed.FoundLabel.{FoundLabel}
 use Rattle.dap_points.specs.Placed.{line_points, label_points}
-use Rattle.dap_points.specs.Boards.{room_behind, wanted_lines}
 use Rattle.dap_program.specs.Boards.{after}
 use Rattle.dap_lines.specs.CodeLines.{landed_at}
 use Rattle.dap_lines.specs.Conditions.{objection}
@@ -28,11 +27,10 @@ found_label b f = record {
   objection = objection b f.options f.has_texts;
 }
 
--- at labels, beside the breakpoints on lines
-abbrev pub labels_behind : Board → List PlacedBreakpoint → List FunctionBreakpoint → List PlacedBreakpoint
-labels_behind b lines functions = label_points (room_behind lines) 0 (map (found_label b) functions)
+-- at labels
+abbrev pub labels_on : Board → List FunctionBreakpoint → List PlacedBreakpoint
+labels_on b functions = label_points 0 (map (found_label b) functions)
 
--- The board stops at these breakpoints on lines of the program, and at these labels. It takes 256 lines,
--- which are all (`few_wanted` in dap_points).
-abbrev pub board_armed_at : Text → List PlacedBreakpoint → List PlacedBreakpoint → Board → Board
-board_armed_at path lines labels b = after (SetBreakpoints path (take 256 (wanted_lines lines labels))) b
+-- the board stops on these lines of the program
+abbrev pub board_armed_at : Text → List ℕ → Board → Board
+board_armed_at path lines b = after (SetBreakpoints path lines) b

@@ -13,6 +13,7 @@ use Rattle.lab_core.specs.declared.answer.SliceOutcome.{SliceOutcome}
 use Rattle.lab_core.specs.declared.answer.SliceOutcome.TheVariants as outcome
 use Rattle.lab_shown.specs.declared.place.PlaceChange.{PlaceChange}
 use Rattle.lab_core.specs.declared.answer.Stop.{Stop}
+use Rattle.lab_core.specs.declared.answer.Stop.TheVariants as stop
 use Rattle.lab_core.specs.declared.answer.End.{End}
 use Rattle.lab_core.specs.declared.answer.End.TheVariants as end
 use Rattle.lab_core.specs.Board.{Board}
@@ -22,15 +23,15 @@ use Rattle.i80_devs.specs.Console.{written_to_console, wants_line}
 use Rattle.dap_board.specs.Names.{reason_of}
 use Rattle.dap_messages.specs.declared.message.EditorEvent.{EditorEvent}
 use Rattle.dap_messages.specs.declared.message.EditorEvent.TheVariants as event
-use Rattle.dap_messages.specs.declared.message.EditorStop.{EditorStop}
-use Rattle.dap_messages.specs.declared.message.EditorStop.TheVariants.{Board as AtBoard, Data}
+use Rattle.dap_messages.specs.declared.message.EditorStop.TheVariants.{Board as AtBoard}
 use Rattle.dap_messages.specs.declared.message.OutputCategory.{OutputCategory}
 use Rattle.dap_messages.specs.declared.message.OutputCategory.TheVariants as category
 use Rattle.dap_slice.specs.declared.conditions.ConditionalBreakpoint.{ConditionalBreakpoint}
 use Rattle.dap_slice.specs.declared.logs.LogLine.{LogLine}
 use Rattle.dap_slice.specs.Logs.{logs_before}
 use Rattle.dap_slice.specs.Counts.{points_after}
-use Rattle.dap_slice.specs.SliceEnds.{slice_end_within, change_after}
+use Rattle.dap_slice.specs.SliceEnds.{slice_end_within, change_after, ids_after}
+use Rattle.dap_points.specs.Kinds.{kind_of}
 use Rattle.dap_editor.specs.declared.request.ExceptionFilters.{ExceptionFilters}
 use Rattle.dap_program.specs.declared.slice.Slice.{Slice}
 use Rattle.dap_program.specs.declared.end.EndPolicy.{EndPolicy}
@@ -88,17 +89,23 @@ policy_events Hold e = event.Stopped (stop_at e) ∷ []
 abbrev pub run_end_events : EndPolicy → End → List EditorEvent
 run_end_events policy e = exception_events e ++ policy_events policy e
 
--- why the run is stopped: by a change of a watched place, or for the board's reason
-abbrev pub stop_of : Option PlaceChange → Stop → EditorStop
-stop_of None s = AtBoard (reason_of s)
-stop_of (Some change) s = Data change
+-- the run is stopped at these breakpoints
+abbrev pub met_event : Option PlaceChange → List ℕ → EditorEvent
+met_event change ids = event.StoppedAt (record { kind = kind_of change ids; ids = ids })
 
--- by the change that was seen, and the ends at which the run is held
-abbrev pub outcome_events : ExceptionFilters → Option PlaceChange → SliceOutcome → List EditorEvent
-outcome_events held change outcome.More = []
-outcome_events held change outcome.Waiting = []
-outcome_events held change (outcome.Stop s) = event.Stopped (stop_of change s) ∷ []
-outcome_events held change (outcome.End e) = run_end_events (policy_at held e) e
+-- A change of a watched place is told, whatever else stopped the run there.
+abbrev pub stop_event : Option PlaceChange → List ℕ → Stop → EditorEvent
+stop_event (Some change) ids s = met_event (Some change) ids
+stop_event None ids stop.Breakpoint = met_event None ids
+stop_event None ids s = event.Stopped (AtBoard (reason_of s))
+
+-- by the change that was seen, the breakpoints that stop the run there, and the ends at which it is held
+abbrev pub outcome_events : ExceptionFilters → Option PlaceChange → List ℕ → SliceOutcome
+    → List EditorEvent
+outcome_events held change ids outcome.More = []
+outcome_events held change ids outcome.Waiting = []
+outcome_events held change ids (outcome.Stop s) = stop_event change ids s ∷ []
+outcome_events held change ids (outcome.End e) = run_end_events (policy_at held e) e
 
 -- what the program writes in a slice with these port operations, which may ask for a line, and then these
 -- events
@@ -128,7 +135,7 @@ slice_context points held has_asked = record { points = points; held = held; has
 abbrev pub events_to : ℕ × SliceOutcome → SliceContext → Board → List EditorEvent
 events_to end c b =
     let traffic = traffic_of end.0 b in
-    let events = outcome_events c.held (change_after c.points end b) end.1 in
+    let events = outcome_events c.held (change_after c.points end b) (ids_after c.points end b) end.1 in
     log_events (logs_before c.points end.0 b)
     ++ run_events (asks_line c.has_asked end.0 traffic) traffic events
 

@@ -2,7 +2,7 @@
 ghost use Rattle.std.specs.Prelude.{◌≡◌, ◌≤◌, length, map, IfOk, OnOk, OnErr};
 ghost use Rattle.lab_core.specs.Board.{Board};
 ghost use Rattle.lab_core.specs.Labs.{RepresentsBoard};
-ghost use Rattle.dap_program.specs.Breakpoints.{lines_on, label_line, found_label, labels_behind};
+ghost use Rattle.dap_program.specs.Breakpoints.{lines_on, label_line, found_label, labels_on};
 ghost use Rattle.dap_program.specs.Breakpoints.{board_armed_at};
 
 use crate::change::change;
@@ -13,9 +13,7 @@ use dap_inspect::label::line_of_label;
 use dap_lines::code_lines::landings;
 use dap_lines::conditions::objection;
 use dap_messages::message::PlacedBreakpoint;
-use dap_points::board::{room_behind, wanted_lines};
 use dap_points::placed::{FoundLabel, label_points, line_points};
-use dap_points::points::MOST_POINTS;
 use lab_core::event::Event;
 use lab_core::lab::Lab;
 use std::alloc::{AllocError, Global};
@@ -79,37 +77,27 @@ fn find_labels(
     Ok(labels)
 }
 
-/// The breakpoints at labels of the program, beside those on lines.
-pub fn labels_behind(
+/// The breakpoints at labels of the program.
+pub fn labels_on(
     alloc: Global,
     lab: &Lab,
-    lines: &[PlacedBreakpoint],
     functions: &[FunctionBreakpoint],
 ) -> Result<Sequence<PlacedBreakpoint>, AllocError>
     requires { length functions.now ≤ 256 }
     ensures { (b : Board) → RepresentsBoard lab.now b
-        → IfOk result (λ points. points ≡ labels_behind b lines.now functions.now) }
+        → IfOk result (λ points. points ≡ labels_on b functions.now) }
 {
     let labels = find_labels(alloc, lab, functions)?;
-    let room = room_behind(alloc, lines)?;
-    label_points(alloc, room, labels.as_slice())
+    label_points(alloc, labels.as_slice())
 }
 
-/// Makes the board stop at these breakpoints on lines of a text, and at these labels. If memory runs out the
-/// board stays as it was.
-pub fn arm(
-    alloc: Global,
-    lab: &mut Lab,
-    path: &Text,
-    lines: &[PlacedBreakpoint],
-    labels: &[PlacedBreakpoint],
-) -> Result<(), AllocError>
+/// Makes the board stop on these lines of a text. If memory runs out the board stays as it was.
+pub fn arm(lab: &mut Lab, path: &Text, lines: Sequence<u32>) -> Result<(), AllocError>
+    requires { length lines ≤ 256 }
     ensures ok { (b : Board) → RepresentsBoard lab.old b
-        → OnOk result (RepresentsBoard lab.new (board_armed_at path.now lines.now labels.now b)) }
+        → OnOk result (RepresentsBoard lab.new (board_armed_at path.now lines b)) }
     ensures err { OnErr result (lab.new ≡ lab.old) }
 {
-    let mut lines = wanted_lines(alloc, lines, labels)?;
-    lines.truncate(MOST_POINTS);
     let path = path.clone()?;
     change(lab, Event::SetBreakpoints { path, lines })
 }

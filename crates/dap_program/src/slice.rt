@@ -11,7 +11,8 @@ ghost use Rattle.dap_program.specs.Messages.{as_messages};
 ghost use Rattle.dap_program.specs.Slices as slices;
 ghost use Rattle.dap_program.specs.Slices.{console_events, line_question, line_events, run_end_events};
 ghost use Rattle.dap_program.specs.Slices.{undefined_line, exception_events, policy_events};
-ghost use Rattle.dap_program.specs.Slices.{stop_of, outcome_events, run_events, MakesSliceIn, is_vain_read};
+ghost use Rattle.dap_program.specs.Slices.{stop_event, outcome_events, run_events, MakesSliceIn};
+ghost use Rattle.dap_program.specs.Slices.{is_vain_read};
 ghost use Rattle.dap_program.specs.Slices.{polls_in_vain, asks_line, slice_context, CountsSlice};
 ghost use Rattle.dap_program.specs.Kits.{IsSliceKit, HasRoomBehind};
 ghost use Rattle.dap_slice.specs.SliceEnds.{slice_end_within};
@@ -22,7 +23,8 @@ use crate::messages::Messages;
 use base_text::sequence::{Bytes, Sequence};
 use dap_board::names::reason_of;
 use dap_editor::request::ExceptionFilters;
-use dap_messages::message::{EditorEvent, EditorStop, Message, OutputCategory};
+use dap_messages::message::{BreakpointStop, EditorEvent, EditorStop, Message, OutputCategory};
+use dap_points::kind::kind_of;
 use dap_slice::conditions::ConditionalBreakpoints;
 use dap_slice::slice::SliceResult;
 use i80_devs::console::{is_line_requested, print_all};
@@ -231,52 +233,66 @@ fn push_run_end(messages: &mut Messages, text: Vec<u8>, policy: EndPolicy, end: 
     push_policy(messages, policy, end);
 }
 
-fn stop_of(change: Option<PlaceChange>, stop: Stop) -> EditorStop
-    ensures { result ≡ stop_of change stop }
+/// The event that says that the run is stopped at these breakpoints.
+pub fn met_event(change: Option<PlaceChange>, ids: Sequence<u32>) -> EditorEvent
+    ensures { result ≡ slices.met_event change ids }
 {
-    match change {
-        None => EditorStop::Board(reason_of(stop)),
-        Some(change) => EditorStop::Data(change),
+    let kind = kind_of(change, ids.as_slice());
+    EditorEvent::StoppedAt(BreakpointStop { kind, ids })
+}
+
+fn stop_event(change: Option<PlaceChange>, ids: Sequence<u32>, stop: Stop) -> EditorEvent
+    ensures { result ≡ stop_event change ids stop }
+{
+    match (change, stop) {
+        (Some(_), _) | (None, Stop::Breakpoint) => met_event(change, ids),
+        (None, _) => EditorEvent::Stopped(EditorStop::Board(reason_of(stop))),
     }
 }
 
-fn push_outcome(
-    messages: &mut Messages,
-    text: Vec<u8>,
-    held: ExceptionFilters,
-    change: Option<PlaceChange>,
+/// How a slice ended: its outcome, and where it stopped the run, the last step's change and the breakpoints.
+#[derive(Drop)]
+struct SliceEnd {
     outcome: SliceOutcome,
-)
+    change: Option<PlaceChange>,
+    ids: Sequence<u32>,
+}
+
+fn push_outcome(messages: &mut Messages, text: Vec<u8>, held: ExceptionFilters, end: SliceEnd)
     requires few { length messages.old + 3 ≤ 8 }
     requires begun { text.items ≡ codes "UndefinedOpcode: " }
     requires room { 28 ≤ vec_capacity text }
-    ensures { messages.new ≡ messages.old ++ as_messages (outcome_events held change outcome) }
+    ensures { messages.new
+        ≡ messages.old ++ as_messages (outcome_events held end.change end.ids end.outcome) }
 {
+    let SliceEnd {
+        outcome,
+        change,
+        ids,
+    } = end;
     match outcome {
         SliceOutcome::More | SliceOutcome::Waiting => drop(text),
         SliceOutcome::Stop(stop) => {
             drop(text);
-            messages.push_event(EditorEvent::Stopped(stop_of(change, stop)));
+            messages.push_event(stop_event(change, ids, stop));
         }
         SliceOutcome::End(end) => push_run_end(messages, text, policy_at(held, end), end),
     }
 }
 
 impl SliceKit {
-    // The messages about a slice with these port operations, this change and this outcome, which may ask
-    // for a line.
+    // The messages about a slice with these port operations and this end, which may ask for a line.
     fn tell(
         self,
         held: ExceptionFilters,
         asks: bool,
         traffic: &[PortOperation],
-        change: Option<PlaceChange>,
-        outcome: SliceOutcome,
+        end: SliceEnd,
     ) -> Sequence<Message>
         requires kit { IsSliceKit self }
         requires few { length traffic.now ≤ 4096 }
-        ensures told { result
-            ≡ as_messages (run_events asks traffic.now (outcome_events held change outcome)) }
+        ensures told { result ≡ as_messages
+            (run_events asks traffic.now (outcome_events held end.change end.ids end.outcome)) }
         ensures few { length result ≤ 8 }
     {
         let SliceKit {
@@ -288,7 +304,7 @@ impl SliceKit {
         let console = print_all(console, traffic);
         push_console(&mut messages, console);
         push_line(&mut messages, question, asks);
-        push_outcome(&mut messages, opcode, held, change, outcome);
+        push_outcome(&mut messages, opcode, held, end);
         messages.into_sequence()
     }
 }
@@ -310,9 +326,9 @@ fn told_after(logs: Vec<Message>, executed: u16, messages: Sequence<Message>) ->
 
 /// Makes at most `limit` steps of the run on a board, from 1 to 4,096, and returns the messages about them.
 /// It ends where the run comes to one of `points`, and tells first what those at PC tell; they count its
-/// hits. `held` says at which ends the run is held, `has_asked` whether the program asked for a line since the
-/// last one was typed. If no run goes on, it fails like out of memory. If it fails, the board and the counts
-/// stay as they were.
+/// hits. `held` says at which ends the run is held, `has_asked` whether the program asked for a line since
+/// the last one was typed. If no run goes on, it fails like out of memory. If it fails, the board and the
+/// counts stay as they were.
 pub fn make_slice(
     alloc: Global,
     lab: &mut Lab,
@@ -329,17 +345,23 @@ pub fn make_slice(
     let lines = points.logs(alloc, lab)?;
     let logs = log_messages(alloc, lines)?;
     let kit = slice_kit(alloc)?;
-    match points.slice(lab, limit) {
+    match points.slice(alloc, lab, limit) {
         Ok(
             SliceResult {
                 executed,
                 traffic,
                 outcome,
                 change,
+                ids,
             },
         ) => {
             let asks_line = asks_line(has_asked, executed, traffic.as_slice());
-            let messages = kit.tell(held, asks_line, traffic.as_slice(), change, outcome);
+            let end = SliceEnd {
+                outcome,
+                change,
+                ids,
+            };
+            let messages = kit.tell(held, asks_line, traffic.as_slice(), end);
             hold_at_end(lab, held, outcome);
             Ok(Slice {
                 messages: told_after(logs, executed, messages),

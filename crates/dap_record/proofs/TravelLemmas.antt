@@ -4,10 +4,11 @@ use Rattle.std.proofs.Common.{IfOk, option_map, nat_lt, refl, sym, ap, subst, tr
 use Rattle.std.specs.declared.alloc.AllocError.{AllocError}
 use Rattle.lab_core.specs.declared.run_state.RunState.{RunState}
 use Rattle.lab_core.specs.Board.{Board}
-use Rattle.dap_history.specs.declared.goal.Goal.{Goal}
+use Rattle.dap_search.specs.declared.goal.Goal.{Goal}
 use Rattle.dap_history.specs.Histories.{HistoryState, KeepsHistory}
 use Rattle.dap_history.specs.declared.input.Recorded.{Recorded}
-use Rattle.dap_history.specs.Searches.{SearchState, IsSearchOf}
+use Rattle.dap_search.specs.Searches.{SearchState, IsSearchOf}
+use Rattle.dap_search.proofs.SearchLemmas.{held_search}
 use Rattle.dap_history.specs.Runs.{board_at, after_rewind}
 use Rattle.dap_launch.specs.declared.program.Phase.TheVariants as phase
 use Rattle.dap_launch.specs.declared.program.Phase.{Phase}
@@ -21,7 +22,10 @@ use Rattle.dap_session.specs.States.{SessionState}
 use Rattle.dap_session.specs.Memory.{is_stopped}
 use Rattle.dap_session.specs.Represents as sessions
 use Rattle.dap_session.specs.Represents.{SessionFields, RepresentsSession}
-use Rattle.dap_session.specs.Rewinds.{can_go_back, is_debugged, held_at, rewound, BeginsSearch, target_for}
+use Rattle.dap_slice.specs.declared.conditions.ConditionalBreakpoint.{ConditionalBreakpoint}
+use Rattle.dap_slice.specs.Counts.{without_hits}
+use Rattle.dap_session.specs.Rewinds.{can_go_back, is_debugged, held_at, put_to, rewound, BeginsSearch}
+use Rattle.dap_session.specs.Rewinds.{target_for}
 use Rattle.dap_session.specs.Laws.{has_run, has_begun, is_begun}
 use Rattle.dap_record.specs.declared.back.Back.{Back}
 use Rattle.dap_record.specs.declared.back.Back.TheVariants as back
@@ -58,31 +62,33 @@ can_released (Some p) run can =
     rw (begun_released p.phase parts.0, parts.1) refl
 
 -- it can still go back there
-pub can_rewound : (was : Board) (s : SessionState) → can_go_back s ≡ true → can_go_back (rewound was s) ≡ true
-can_rewound was s can = can_released s.settings.program s.board.run can
+pub can_put : (was : Board) (points : List ConditionalBreakpoint) (s : SessionState) → can_go_back s ≡ true
+    → can_go_back (put_to was points s) ≡ true
+can_put was points s can = can_released s.settings.program s.board.run can
 
 pub can_held : (was : Board) (s : SessionState) → can_go_back s ≡ true → can_go_back (held_at was s) ≡ true
 can_held was s can = can_released s.settings.program s.board.run can
 
 -- the recording of a run that was put to this count
 pub recorded_at : (v v' : RecordingFields) (r : Recording) (s : SessionState) (count : ℕ)
-    → RepresentsRecording v r s → KeepsHistory r.start v.history v'.history → v'.count ≡ count
+    (points : List ConditionalBreakpoint) → RepresentsRecording v r s
+    → KeepsHistory r.start v.history v'.history → v'.count ≡ count
     → v'.told ≡ v.told
-    → RepresentsRecording v' (record r { count = count }) (rewound (board_at r.start r.log count) s)
-recorded_at v v' r s count recording keeps count_is told_is = record {
+    → RepresentsRecording v' (record r { count = count }) (put_to (board_at r.start r.log count) points s)
+recorded_at v v' r s count points recording keeps count_is told_is = record {
   history = keeps.history;
   log = keeps.log ∙ recording.log;
   count = count_is;
   told = told_is ∙ recording.told;
   parts = record { machine = refl; past = refl; trace = refl };
-  can = can_rewound (board_at r.start r.log count) s recording.can;
+  can = can_put (board_at r.start r.log count) points s recording.can;
 }
 
 -- ---- where it leads
 
 pub arrives : (c : Back) (r : Recording) (s : SessionState) (v v' : RecordingFields) (session : SessionFields)
     (body : EditorBody) (h : HistoryState)
-    → goal_of c s.board ≡ None → RepresentsRecording v r s → KeepsHistory r.start v.history v'.history
+    → goal_of c r.count s ≡ None → RepresentsRecording v r s → KeepsHistory r.start v.history v'.history
     → v'.count ≡ count_to c v.count → v'.told ≡ v.told → body ≡ body_for c → h ≡ v.history
     → RepresentsSession session (rewound (board_at r.start h.log (count_to c v.count)) s)
     → GoesBack c r s
@@ -100,7 +106,8 @@ arrives c r s v v' session body h none recording keeps count_is told_is body_is 
       represents =
           record {
             session = at;
-            recording = recorded_at v v' r s (count_to c r.count) recording keeps (count_is ∙ there) told_is;
+            recording = recorded_at v v' r s (count_to c r.count) (without_hits s.settings.conditional)
+                recording keeps (count_is ∙ there) told_is;
             search = tt;
           };
     })
@@ -110,23 +117,13 @@ searches_held : (goal : Goal) (r : Recording) (s : SessionState) (v : SearchStat
     → IsSearchOf r.start r.log s.board (target_for goal s) r.count v
     → IsSearchOf r.start r.log (after_rewind (board_at r.start r.log r.count) s.board) (target_for goal s)
     r.count v
-searches_held goal r s v search = record {
-  above = search.above;
-  scan =
-      record {
-        seen = search.scan.seen;
-        marks = record { addresses = search.scan.marks.addresses; watches = search.scan.marks.watches };
-        goal_is = search.scan.goal_is;
-      };
-  within = search.within;
-  here = search.here;
-  home = search.home;
-}
+searches_held goal r s v search =
+    held_search r.start (board_at r.start r.log r.count) s.board r.log (target_for goal s) r.count v search
 
 pub departs : (c : Back) (goal : Goal) (r : Recording) (s : SessionState) (v : RecordingFields)
     (log : List Recorded) (count : ℕ) (search : SearchState)
     (session : SessionFields) (body : EditorBody)
-    → goal_of c s.board ≡ Some goal → RepresentsRecording v r s → log ≡ r.log → count ≡ r.count
+    → goal_of c r.count s ≡ Some goal → RepresentsRecording v r s → log ≡ r.log → count ≡ r.count
     → body ≡ body_for c → BeginsSearch goal r.start log count s search session
     → GoesBack c r s (record {
       reply = record { outcome = Success body; follow = Nothing };
@@ -229,7 +226,7 @@ pub some_back : (c : Back) (r : Recording) (s : SessionState) (d : Departure) (v
     (session : SessionFields) → GoesBack c r s d v session
     → RepresentsSome (record { session = session; recording = Some v; search = d.search })
 some_back c r s d v session goes =
-    let x = leaving (goal_of c s.board) c r s in
+    let x = leaving (goal_of c r.count s) c r s in
     (record { session = x.reply.state; recording = x.recording; search = x.search }, goes.represents)
 
 pub replies_back : (c : Back) (r : Recording) (s : SessionState) (d : Departure) (v : RecordingFields)

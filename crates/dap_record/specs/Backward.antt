@@ -1,15 +1,16 @@
 -- Going back (Debug Adapter Protocol, `stepBack` and `reverseContinue`), and the prompt's `back`.
-use Rattle.std.specs.Prelude.{ℕ, zero, suc, ◌+◌, ◌-◌, ◌*◌, [], ◌∷◌, min, length, Bool, true, false}
+use Rattle.std.specs.Prelude.{ℕ, zero, suc, ◌+◌, ◌-◌, ◌*◌, List, [], ◌∷◌, min, length, Bool, true, false}
 use Rattle.std.specs.Prelude.{Option, Some, None, codes, nat_lt, if◌then◌else◌}
 use Rattle.std.specs.Str.{bytes_eq}
 use Rattle.base_text.specs.Bytes.{Text}
 use Rattle.lab_frames.specs.Live.{live}
-use Rattle.lab_core.specs.Board.{Board}
 use Rattle.lab_core.specs.declared.fault.EventFault.TheVariants.{NotStopped}
 use Rattle.dap_answers.specs.declared.answer.Body.TheVariants.{Empty}
 use Rattle.dap_answers.specs.declared.answer.StopReason.TheVariants as reason
 use Rattle.dap_messages.specs.declared.message.EditorBody.{EditorBody}
 use Rattle.dap_messages.specs.declared.message.EditorBody.TheVariants as body
+use Rattle.dap_messages.specs.declared.message.EditorEvent.{EditorEvent}
+use Rattle.dap_messages.specs.declared.message.EditorEvent.TheVariants as event
 use Rattle.dap_messages.specs.declared.message.EditorStop.{EditorStop}
 use Rattle.dap_messages.specs.declared.message.EditorStop.TheVariants.{Entry, Board as AtBoard}
 use Rattle.dap_editor.specs.declared.request.EvaluateContext.TheVariants.{Repl}
@@ -17,10 +18,13 @@ use Rattle.dap_editor.specs.declared.request.EditorCommand.TheVariants as editor
 use Rattle.dap_editor.specs.declared.request.RequestContent.{RequestContent}
 use Rattle.dap_editor.specs.declared.request.RequestContent.TheVariants as asked
 use Rattle.lab_shown.specs.declared.step.Granularity.TheVariants as granularity
-use Rattle.dap_history.specs.declared.goal.Goal.{Goal}
-use Rattle.dap_history.specs.declared.goal.Goal.TheVariants.{Statement, Breakpoint}
+use Rattle.dap_search.specs.declared.goal.Goal.{Goal}
+use Rattle.dap_search.specs.declared.goal.Goal.TheVariants.{Statement, Breakpoint, Count}
 use Rattle.dap_history.specs.Runs.{board_at}
-use Rattle.dap_history.specs.Searches.{passes, goal_below}
+use Rattle.dap_search.specs.Goals.{is_goal, goal_below}
+use Rattle.dap_search.specs.Searches.{counts_hits}
+use Rattle.dap_slice.specs.Stops.{back_ids}
+use Rattle.dap_program.specs.Slices.{met_event}
 use Rattle.dap_program.specs.declared.messages.FollowUp.TheVariants.{Nothing, Stopped}
 use Rattle.dap_program.specs.Refusals.{board_refusal}
 use Rattle.dap_session.specs.States.{SessionState}
@@ -70,19 +74,25 @@ back_of other = None
 
 -- ---- where they lead
 
--- What must be searched for: the statement before this one, at which no more frames are live, or the last
--- breakpoint. Of the others the count is known.
-abbrev pub goal_of : Back → Board → Option Goal
-goal_of (back.Step granularity.Instruction) b = None
-goal_of (back.Step other) b = Some (Statement (length (live b.trace)))
-goal_of back.Continue b = Some Breakpoint
-goal_of other b = None
-
 abbrev pub count_to : Back → ℕ → ℕ
 count_to (back.Step by) n = n - 1
 count_to (back.Steps k) n = n - k
 count_to back.Start n = 0
 count_to other n = n
+
+-- a search, only for the hits of the steps between
+abbrev pub goal_if : Bool → ℕ → Option Goal
+goal_if is_counted count = if is_counted then Some (Count count) else None
+
+-- What must be searched for, from n steps: the statement before this one, at which no more frames are live,
+-- or the last breakpoint. Of the others the count is known, and if breakpoints count their hits those of the
+-- steps between are searched for; at the start of a run there were none.
+abbrev pub goal_of : Back → ℕ → SessionState → Option Goal
+goal_of (back.Step granularity.Instruction) n s = goal_if (counts_hits s.settings.conditional) (n - 1)
+goal_of (back.Step other) n s = Some (Statement (length (live s.board.trace)))
+goal_of back.Continue n s = Some Breakpoint
+goal_of (back.Steps k) n s = goal_if (counts_hits s.settings.conditional) (n - k)
+goal_of other n s = None
 
 abbrev pub stop_at_count : Back → EditorStop
 stop_at_count back.Start = Entry
@@ -92,14 +102,18 @@ stop_at_count other = AtBoard reason.Step
 abbrev pub found_by : Goal → Recording → SessionState → ℕ
 found_by goal r s = goal_below (target_for goal s) r.start r.log s.board r.count
 
--- the run is at a breakpoint there, or at its start
-abbrev pub met_or_entry : Bool → EditorStop
-met_or_entry true = AtBoard reason.Breakpoint
-met_or_entry false = Entry
+-- the run is at these breakpoints there, or at its start
+abbrev pub met_or_entry : Bool → List ℕ → EditorEvent
+met_or_entry true ids = met_event None ids
+met_or_entry false ids = event.Stopped Entry
 
-abbrev pub stop_found : Goal → Recording → SessionState → ℕ → EditorStop
-stop_found (Statement depth) r s count = AtBoard reason.Step
-stop_found Breakpoint r s count = met_or_entry (passes (target_for Breakpoint s) r.start r.log s.board count)
+-- what is told of a session whose run was put to where a search led
+abbrev pub found_event : Goal → SessionState → EditorEvent
+found_event (Statement depth) s = event.Stopped (AtBoard reason.Step)
+found_event (Count count) s = event.Stopped (AtBoard reason.Step)
+found_event Breakpoint s =
+    let points = s.settings.conditional in
+    met_or_entry (is_goal points Breakpoint s.board) (back_ids points s.board)
 
 -- ---- the reply
 
@@ -141,7 +155,7 @@ leaving (Some goal) c r s = searching_for goal c r s
 abbrev pub going_back_from : Option Recording → Back → SessionState → RecordedReply
 going_back_from None c s = refusing_back (codes "too much was typed or changed for going back") None s
 going_back_from (Some r) c s =
-    if nat_lt 0 r.count then leaving (goal_of c s.board) c r s
+    if nat_lt 0 r.count then leaving (goal_of c r.count s) c r s
     else refusing_back (codes "the run begins here") (Some r) s
 
 abbrev pub unclear_text : Text

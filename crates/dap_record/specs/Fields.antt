@@ -1,8 +1,8 @@
 -- What contracts see of a recording, a search and a recorded session.
 use Rattle.std.specs.Prelude.{ℕ, Option}
 use Rattle.dap_history.specs.Histories.{HistoryState}
-use Rattle.dap_history.specs.declared.goal.Goal.{Goal}
-use Rattle.dap_history.specs.Searches.{SearchState}
+use Rattle.dap_search.specs.declared.goal.Goal.{Goal}
+use Rattle.dap_search.specs.Searches.{SearchState}
 use Rattle.dap_session.specs.Represents.{SessionFields}
 
 pub record RecordingFields : Type 0 where

@@ -4,7 +4,7 @@ use Rattle.std.specs.Prelude.{None, nat_lt, option_and_then, if◌then◌else◌
 use Rattle.std.specs.List.{fold}
 use Rattle.lab_core.specs.Board.{Board}
 use Rattle.dap_editor.specs.declared.request.RequestContent.{RequestContent}
-use Rattle.dap_history.specs.declared.goal.Goal.{Goal}
+use Rattle.dap_search.specs.declared.goal.Goal.{Goal}
 use Rattle.dap_history.specs.declared.input.Input.{Input}
 use Rattle.dap_history.specs.declared.input.Recorded.{Recorded}
 use Rattle.dap_history.specs.Logs.{up_to, later_than, size_of_input, log_size}

@@ -6,8 +6,8 @@ use Rattle.dap_messages.specs.declared.message.Message.{Message}
 use Rattle.dap_messages.specs.declared.message.Message.TheVariants as message
 use Rattle.dap_history.specs.Histories.{IsHistoryOf}
 use Rattle.dap_history.specs.Runs.{board_at, after_rewind}
-use Rattle.dap_history.specs.Searches.{IsSearchOf}
-use Rattle.dap_history.specs.declared.goal.Goal.{Goal}
+use Rattle.dap_search.specs.Searches.{IsSearchOf}
+use Rattle.dap_search.specs.declared.goal.Goal.{Goal}
 use Rattle.dap_launch.specs.declared.reply.Reply.{Reply}
 use Rattle.dap_session.specs.States.{SessionState}
 use Rattle.dap_session.specs.Represents.{SessionFields, RepresentsSession}
@@ -108,7 +108,7 @@ IsRecorded v session = (r : Recording) × (s : SessionState) × RepresentsSessio
 -- the reply to a request that goes back, and what the recording, the search and the session represent then
 abbrev pub GoesBack : Back → Recording → SessionState → Departure → RecordingFields → SessionFields → Type 0
 GoesBack c r s d v session =
-    Replies (leaving (goal_of c s.board) c r s) d.reply
+    Replies (leaving (goal_of c r.count s) c r s) d.reply
     (record { session = session; recording = Some v; search = d.search })
 
 -- the search of a recorded run

@@ -11,21 +11,19 @@ use Rattle.dap_messages.specs.declared.message.Message.TheVariants as message
 use Rattle.dap_editor.specs.declared.request.EditorRequest.{EditorRequest}
 use Rattle.dap_editor.specs.declared.request.RequestContent.{RequestContent}
 use Rattle.dap_history.specs.declared.input.Recorded.{Recorded}
-use Rattle.dap_history.specs.declared.goal.Goal.{Goal}
+use Rattle.dap_search.specs.declared.goal.Goal.{Goal}
 use Rattle.dap_history.specs.Logs.{up_to}
-use Rattle.dap_history.specs.Runs.{board_at}
 use Rattle.dap_launch.specs.declared.file.FileText.{FileText}
 use Rattle.dap_program.specs.declared.messages.RequestId.{RequestId}
-use Rattle.dap_program.specs.declared.messages.FollowUp.TheVariants.{Stopped}
-use Rattle.dap_program.specs.Messages.{turn_messages, as_messages, events_of}
+use Rattle.dap_program.specs.Messages.{turn_messages, as_messages}
 use Rattle.dap_inputs.specs.Inputs.{as_meant}
 use Rattle.dap_session.specs.States.{SessionState, with_board, wants_slice, has_watch_commands}
-use Rattle.dap_session.specs.Rewinds.{rewound}
+use Rattle.dap_session.specs.Rewinds.{after_search}
 use Rattle.dap_session.specs.Slices as session
 use Rattle.dap_session.specs.Slices.{slicing, caller_of}
 use Rattle.dap_record.specs.Recordings.{Recording, RecordedState, inputs_ahead, after_inputs, is_behind}
 use Rattle.dap_record.specs.Recordings.{kept_while}
-use Rattle.dap_record.specs.Backward.{found_by, stop_found}
+use Rattle.dap_record.specs.Backward.{found_by, found_event}
 use Rattle.dap_record.specs.Turns.{RecordedTurn, turn}
 
 -- messages, and the session after them
@@ -97,11 +95,12 @@ run_told v =
 abbrev pub found_from : Recording → Goal → SessionState → RecordedTold
 found_from r goal s =
     let count = found_by goal r s in
+    let there = after_search r.start r.log r.count count s in
     record {
-      messages = as_messages (events_of (Stopped (stop_found goal r s count)));
+      messages = as_messages (found_event goal there ∷ []);
       state =
           record {
-            session = rewound (board_at r.start r.log count) s;
+            session = there;
             recording = Some (record r { count = count });
             search = None;
           };

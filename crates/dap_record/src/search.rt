@@ -1,21 +1,20 @@
 //! Parts of a search backward.
-ghost use Rattle.std.specs.Prelude.{◌≡◌, ℕ, IfOk};
-ghost use Rattle.dap_history.specs.Runs.{board_at};
-ghost use Rattle.dap_program.specs.Messages.{as_messages, events_of};
+ghost use Rattle.std.specs.Prelude.{◌≡◌, [], ◌∷◌, IfOk};
+ghost use Rattle.dap_program.specs.Messages.{as_messages};
 ghost use Rattle.dap_session.specs.States.{SessionState};
 ghost use Rattle.dap_session.specs.Represents.{RepresentsSession};
-ghost use Rattle.dap_session.specs.Rewinds.{rewound};
 ghost use Rattle.dap_record.specs.Recordings.{Recording};
-ghost use Rattle.dap_record.specs.Backward.{stop_found};
+ghost use Rattle.dap_record.specs.Backward.{found_event};
 ghost use Rattle.dap_record.specs.Represents.{RepresentsRecording, IsSearchFor, IsSearched, MakesSearchPart};
 
 use crate::recording::RunRecording;
 use base_text::sequence::Sequence;
 use dap_answers::answer::StopReason;
-use dap_history::goal::Goal;
-use dap_history::search::Search;
-use dap_messages::message::{EditorStop, Message};
-use dap_program::messages::{FollowUp, Messages};
+use dap_messages::message::{EditorEvent, EditorStop, Message};
+use dap_program::messages::Messages;
+use dap_program::slice::met_event;
+use dap_search::goal::Goal;
+use dap_search::search::Search;
 use dap_session::session::Session;
 use std::alloc::{AllocError, Global};
 use std::marker::Model;
@@ -42,30 +41,42 @@ pub(crate) struct SearchPart {
     pub search: Option<GoalSearch>,
 }
 
-// Why the run is stopped where a search found its goal.
-fn stop_found(session: &Session, goal: Goal) -> EditorStop
-    ensures { (r : Recording) (s : SessionState) (found : ℕ)
-        → RepresentsSession session.now (rewound (board_at r.start r.log found) s)
-        → result ≡ stop_found goal r s found }
+fn met_or_entry(alloc: Global, session: &Session) -> Result<EditorEvent, AllocError>
+    ensures { (s : SessionState) → RepresentsSession session.now s
+        → IfOk result (λ event. event ≡ found_event Goal.Breakpoint s) }
 {
-    match goal {
-        Goal::Statement { .. } => EditorStop::Board(StopReason::Step),
-        Goal::Breakpoint => {
-            if session.is_at_breakpoint() {
-                EditorStop::Board(StopReason::Breakpoint)
-            } else {
-                EditorStop::Entry
-            }
-        }
+    if session.is_at_breakpoint() {
+        let ids = session.back_ids(alloc)?;
+        Ok(met_event(None, ids))
+    } else {
+        Ok(EditorEvent::Stopped(EditorStop::Entry))
     }
 }
 
-// The event that says so.
-fn stop_messages(alloc: Global, stop: EditorStop) -> Result<Sequence<Message>, AllocError>
-    ensures { IfOk result (λ messages. messages ≡ as_messages (events_of (FollowUp.Stopped stop))) }
+// What is told where a search found its goal.
+fn found_event(alloc: Global, session: &Session, goal: Goal) -> Result<EditorEvent, AllocError>
+    ensures { (s : SessionState) → RepresentsSession session.now s
+        → IfOk result (λ event. event ≡ found_event goal s) }
 {
+    match goal {
+        Goal::Statement { .. } | Goal::Count(_) => {
+            Ok(EditorEvent::Stopped(EditorStop::Board(StopReason::Step)))
+        }
+        Goal::Breakpoint => met_or_entry(alloc, session),
+    }
+}
+
+fn found_messages(
+    alloc: Global,
+    session: &Session,
+    goal: Goal,
+) -> Result<Sequence<Message>, AllocError>
+    ensures { (s : SessionState) → RepresentsSession session.now s
+        → IfOk result (λ messages. messages ≡ as_messages (found_event goal s ∷ [])) }
+{
+    let event = found_event(alloc, session, goal)?;
     let mut messages = Messages::new(alloc)?;
-    messages.push_follow(FollowUp::Stopped(stop));
+    messages.push_event(event);
     Ok(messages.into_sequence())
 }
 
@@ -89,10 +100,9 @@ pub(crate) fn search_on(
         }),
         Some(count) => {
             recording.count = count;
-            let stop = stop_found(session, goal);
             drop(search);
             Ok(SearchPart {
-                messages: stop_messages(alloc, stop)?,
+                messages: found_messages(alloc, session, goal)?,
                 search: None,
             })
         }

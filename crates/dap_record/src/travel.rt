@@ -6,7 +6,8 @@ ghost use Rattle.dap_session.specs.Represents.{RepresentsSession};
 ghost use Rattle.dap_session.specs.Rewinds.{rewound};
 ghost use Rattle.dap_record.specs.Recordings.{Recording};
 ghost use Rattle.dap_record.specs.Backward as backward;
-ghost use Rattle.dap_record.specs.Backward.{body_for, stop_at_count};
+ghost use Rattle.dap_search.specs.Searches.{counts_hits};
+ghost use Rattle.dap_record.specs.Backward.{body_for, goal_if, stop_at_count};
 ghost use Rattle.dap_record.specs.Represents.{RepresentsRecording, IsRecorded, GoesBack};
 
 use crate::back::Back;
@@ -14,10 +15,10 @@ use crate::recording::RunRecording;
 use crate::search::GoalSearch;
 use base_text::text::Text;
 use dap_answers::answer::{Body, StopReason};
-use dap_history::goal::Goal;
 use dap_launch::reply::{Reply, succeed};
 use dap_messages::message::{EditorBody, EditorStop};
 use dap_program::messages::FollowUp;
+use dap_search::goal::Goal;
 use dap_session::session::Session;
 use lab_shown::step::Granularity;
 use std::alloc::{AllocError, Global};
@@ -42,20 +43,6 @@ fn body_for(alloc: Global, back: Back) -> Result<EditorBody, AllocError>
     }
 }
 
-// What must be searched for, if the count isn't known.
-fn goal_of(session: &Session, back: Back) -> Option<Goal>
-    ensures { (s : SessionState) → RepresentsSession session.now s → result ≡ backward.goal_of back s.board }
-{
-    match back {
-        Back::Step(Granularity::Line) => {
-            let depth = session.depth();
-            Some(Goal::Statement { depth })
-        }
-        Back::Continue => Some(Goal::Breakpoint),
-        Back::Step(Granularity::Instruction) | Back::Steps(_) | Back::Start | Back::Unclear => None,
-    }
-}
-
 // The count to which this leads from another.
 fn count_to(back: Back, count: u64) -> u64
     ensures { result ≡ backward.count_to back count }
@@ -65,6 +52,36 @@ fn count_to(back: Back, count: u64) -> u64
         Back::Steps(n) => count.saturating_sub(n),
         Back::Start => 0,
         Back::Continue | Back::Unclear => count,
+    }
+}
+
+// A search for this count, if a breakpoint counts the hits of the steps between.
+fn goal_if(session: &Session, count: u64) -> Option<Goal>
+    ensures { (s : SessionState) → RepresentsSession session.now s
+        → result ≡ goal_if (counts_hits s.settings.conditional) count }
+{
+    if session.counts_hits() {
+        Some(Goal::Count(count))
+    } else {
+        None
+    }
+}
+
+// What must be searched for, from a count of steps.
+fn goal_of(session: &Session, back: Back, count: u64) -> Option<Goal>
+    ensures { (s : SessionState) → RepresentsSession session.now s
+        → result ≡ backward.goal_of back count s }
+{
+    match back {
+        Back::Step(Granularity::Line) => {
+            let depth = session.depth();
+            Some(Goal::Statement { depth })
+        }
+        Back::Continue => Some(Goal::Breakpoint),
+        Back::Step(Granularity::Instruction) | Back::Steps(_) => {
+            goal_if(session, count_to(back, count))
+        }
+        Back::Start | Back::Unclear => None,
     }
 }
 
@@ -86,7 +103,7 @@ fn arrive(
 ) -> Result<Departure, AllocError>
     requires { IsRecorded recording.old session.old }
     ensures { (r : Recording) (s : SessionState) → RepresentsSession session.old s
-        → RepresentsRecording recording.old r s → backward.goal_of back s.board ≡ None
+        → RepresentsRecording recording.old r s → backward.goal_of back r.count s ≡ None
         → IfOk result (λ d. GoesBack back r s d recording.new session.new) }
 {
     let body = body_for(alloc, back)?;
@@ -110,7 +127,7 @@ fn begin_search(
 ) -> Result<Departure, AllocError>
     requires { IsRecorded recording.old session.old }
     ensures { (r : Recording) (s : SessionState) → RepresentsSession session.old s
-        → RepresentsRecording recording.old r s → backward.goal_of back s.board ≡ Some goal
+        → RepresentsRecording recording.old r s → backward.goal_of back r.count s ≡ Some goal
         → IfOk result (λ d. GoesBack back r s d recording.new session.new) }
 {
     let body = body_for(alloc, back)?;
@@ -133,7 +150,7 @@ pub(crate) fn go_back(
         → RepresentsRecording recording.old r s
         → IfOk result (λ d. GoesBack back r s d recording.new session.new) }
 {
-    match goal_of(session, back) {
+    match goal_of(session, back, recording.count) {
         Some(goal) => begin_search(alloc, session, recording, back, goal),
         None => arrive(alloc, session, recording, back),
     }

@@ -23,14 +23,13 @@ use Rattle.lab_core.specs.Events.{or_assembly, cell_meaning, as_answer, parts_of
 use Rattle.lab_core.specs.Events.{after_end}
 use Rattle.lab_core.specs.Changes.{after_write}
 use Rattle.lab_core.specs.Slices.{after_steps}
-use Rattle.dap_messages.specs.declared.message.PlacedBreakpoint.{PlacedBreakpoint}
 use Rattle.dap_editor.specs.declared.request.Launch.{Launch}
 use Rattle.dap_program.specs.declared.load.LoadFault.{LoadFault}
 use Rattle.dap_program.specs.Boards.{board_after, after, begin_run}
-use Rattle.dap_program.specs.Breakpoints.{board_armed_at, lines_on, labels_behind}
+use Rattle.dap_program.specs.Breakpoints.{board_armed_at}
 use Rattle.dap_program.specs.Loading.{attached_where, board_to_load_on, start_of, with_start, loaded_by}
 use Rattle.dap_program.specs.Loading.{load_result}
-use Rattle.dap_launch.specs.Programs.{ProgramLists, with_input}
+use Rattle.dap_launch.specs.Programs.{ProgramLists, placed_on, with_input}
 use Rattle.dap_launch.specs.declared.program.Program.{Program}
 use Rattle.dap_session.specs.Breakpoints.{armed_where}
 
@@ -118,16 +117,15 @@ kept_lines path lines b =
 
 -- ---- breakpoints
 
-pub kept_armed : (path : Text) (lines labels : List PlacedBreakpoint) (b : Board)
-    → SameRun b (board_armed_at path lines labels b)
-kept_armed path lines labels b = kept_after b _ (kept_lines path _ b)
+pub kept_armed : (path : Text) (lines : List ℕ) (b : Board)
+    → SameRun b (board_armed_at path lines b)
+kept_armed path lines b = kept_after b _ (kept_lines path _ b)
 
 pub kept_where : (o : Option Program) (wanted : Program → ProgramLists) (b : Board)
     → SameRun b (armed_where o wanted b)
 kept_where None wanted b = same b
 kept_where (Some p) wanted b =
-    let on_lines = lines_on b (wanted p).number (wanted p).lines in
-    kept_armed p.launch.program on_lines (labels_behind b on_lines (wanted p).functions) b
+    kept_armed p.launch.program (placed_on b (wanted p)).on_board b
 
 -- ---- bytes that are written
 

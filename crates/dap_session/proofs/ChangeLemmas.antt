@@ -39,7 +39,6 @@ use Rattle.dap_messages.specs.declared.message.EditorEvent.TheVariants as told
 use Rattle.dap_messages.specs.declared.message.UndefinedOpcode.{UndefinedOpcode}
 use Rattle.dap_editor.specs.declared.request.EditorCommand.{EditorCommand}
 use Rattle.dap_editor.specs.declared.request.EditorCommand.TheVariants as editor
-use Rattle.dap_messages.specs.declared.message.PlacedBreakpoint.{PlacedBreakpoint}
 use Rattle.dap_editor.specs.declared.request.EvaluateContext.{EvaluateContext}
 use Rattle.dap_editor.specs.declared.request.EvaluateContext.TheVariants as context
 use Rattle.dap_editor.specs.declared.request.RequestContent.{RequestContent}
@@ -51,7 +50,7 @@ use Rattle.dap_points.specs.Points.{has_place}
 use Rattle.dap_program.specs.declared.messages.FollowUp.{FollowUp}
 use Rattle.dap_program.specs.declared.messages.FollowUp.TheVariants as follow
 use Rattle.dap_program.specs.Boards.{board_after}
-use Rattle.dap_program.specs.Breakpoints.{board_armed_at, lines_on, labels_behind}
+use Rattle.dap_program.specs.Breakpoints.{board_armed_at}
 use Rattle.dap_program.specs.Ends.{exit_code}
 use Rattle.dap_program.specs.Memory.{address_at}
 use Rattle.dap_program.specs.Messages.{event_if, events_of}
@@ -60,10 +59,11 @@ use Rattle.dap_launch.specs.declared.program.Phase.{Phase}
 use Rattle.dap_launch.specs.declared.program.Phase.TheVariants as phase
 use Rattle.dap_launch.specs.declared.program.Program.{Program}
 use Rattle.dap_launch.specs.Lives.{in_phase, is_live, end_of, exception_of}
-use Rattle.dap_launch.specs.Programs.{ProgramLists}
+use Rattle.dap_launch.specs.Programs.{ProgramLists, placed_on}
 use Rattle.dap_session.specs.States.{SessionState}
 use Rattle.dap_session.specs.Turns.{Replied, change_follow}
-use Rattle.dap_session.specs.Breakpoints.{program_at, armed_where}
+use Rattle.dap_launch.specs.Programs.{program_at}
+use Rattle.dap_session.specs.Breakpoints.{armed_where}
 use Rattle.dap_session.specs.Evaluations.{command_reply}
 use Rattle.dap_inputs.specs.Prompt.{behind, byte_spelled, byte_command, command_with}
 use Rattle.dap_session.specs.Evaluations.{value_told, prompting, evaluating}
@@ -110,9 +110,9 @@ kept_dump path text b =
     kept_step (or_source (place_of (record { path = path; text = text }) b.sources)) b _
     (λ place. record { machine = refl; past = refl; trace = refl })
 
-kept_armed : (path : Text) (lines labels : List PlacedBreakpoint) (b : Board)
-    → SameParts b (board_armed_at path lines labels b)
-kept_armed path lines labels b =
+kept_armed : (path : Text) (lines : List ℕ) (b : Board)
+    → SameParts b (board_armed_at path lines b)
+kept_armed path lines b =
     kept_after b _ (kept_source (source_at b.sources path) b _
     (λ n text. record { machine = refl; past = refl; trace = refl }))
 
@@ -120,8 +120,7 @@ pub kept_where : (o : Option Program) (wanted : Program → ProgramLists) (b : B
     → SameParts b (armed_where o wanted b)
 kept_where None wanted b = same b
 kept_where (Some p) wanted b =
-    let on_lines = lines_on b (wanted p).number (wanted p).lines in
-    kept_armed p.launch.program on_lines (labels_behind b on_lines (wanted p).functions) b
+    kept_armed p.launch.program (placed_on b (wanted p)).on_board b
 
 pub kept_pause : (a : Bool) (r : RunState) (b : Board)
     → KeepsParts b (while_attached a (while_running r (Ok (answer.Accepted, board_stopped b))))

@@ -56,7 +56,7 @@ use Rattle.dap_launch.specs.declared.program.Program.{Program}
 use Rattle.dap_launch.specs.Lives.{in_phase, end_of, exception_of}
 use Rattle.dap_session.specs.States.{SessionState}
 use Rattle.dap_session.specs.Turns.{Turn, Replied, turn_of, change_follow}
-use Rattle.dap_session.specs.Breakpoints.{program_at}
+use Rattle.dap_launch.specs.Programs.{program_at}
 use Rattle.dap_session.specs.Evaluations.{command_reply}
 use Rattle.dap_inputs.specs.Prompt.{behind, byte_spelled, byte_command, command_with}
 use Rattle.dap_session.specs.Evaluations.{value_told, prompting, evaluating}

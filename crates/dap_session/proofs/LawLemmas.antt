@@ -41,8 +41,11 @@ use Rattle.dap_session.specs.Slices.{slice_end_in}
 use Rattle.i80_devs.specs.Console.{written_to_console}
 use Rattle.dap_slice.specs.declared.logs.LogLine.{LogLine}
 use Rattle.dap_slice.specs.Logs.{logs_before}
-use Rattle.dap_slice.specs.SliceEnds.{change_after}
+use Rattle.dap_slice.specs.SliceEnds.{change_after, ids_after}
+use Rattle.lab_core.specs.declared.answer.Stop.{Stop}
+use Rattle.lab_core.specs.declared.answer.Stop.TheVariants as stop
 use Rattle.dap_program.specs.Slices.{events_to, log_events, console_events, line_events, outcome_events}
+use Rattle.dap_program.specs.Slices.{stop_event}
 use Rattle.dap_program.specs.Slices.{run_end_events, asks_line}
 use Rattle.dap_program.proofs.SliceLemmas.{told-append}
 use Rattle.dap_launch.specs.declared.file.FileText.{FileText}
@@ -213,12 +216,17 @@ silent_end Exit (end.Undefined opcode pc) = refl
 silent_end Hold end.Halted = refl
 silent_end Hold (end.Undefined opcode pc) = refl
 
-silent_outcome : (p : ExceptionFilters) (c : Option PlaceChange) (o : SliceOutcome)
-    → IsSilent (outcome_events p c o)
-silent_outcome p c outcome.More = refl
-silent_outcome p c outcome.Waiting = refl
-silent_outcome p c (outcome.Stop reason) = refl
-silent_outcome p c (outcome.End e) = silent_end (policy_at p e) e
+silent_stop : (c : Option PlaceChange) (ids : List ℕ) (r : Stop) → IsSilent (stop_event c ids r ∷ [])
+silent_stop (Some change) ids r = refl
+silent_stop None ids stop.Breakpoint = refl
+silent_stop None ids other = refl
+
+silent_outcome : (p : ExceptionFilters) (c : Option PlaceChange) (ids : List ℕ) (o : SliceOutcome)
+    → IsSilent (outcome_events p c ids o)
+silent_outcome p c ids outcome.More = refl
+silent_outcome p c ids outcome.Waiting = refl
+silent_outcome p c ids (outcome.Stop reason) = silent_stop c ids reason
+silent_outcome p c ids (outcome.End e) = silent_end (policy_at p e) e
 
 shown_run : (bytes : Bytes) (asks : Bool) (es : List EditorEvent) → IsSilent es
     → shown (console_events bytes ++ (line_events asks ++ es)) ≡ bytes
@@ -244,10 +252,11 @@ pub shown_slicing : (p : ℕ × SliceOutcome) (s : SessionState)
 shown_slicing (k, ending) s =
     let held = held_ends s.settings.filters s.settings.program in
     let change = change_after s.settings.conditional (k, ending) s.board in
+    let ids = ids_after s.settings.conditional (k, ending) s.board in
     let traffic = traffic_of k s.board in
     shown_events (logs_before s.settings.conditional k s.board) (filter_map written_to_console traffic)
-    (asks_line s.settings.has_asked k traffic) (outcome_events held change ending)
-    (silent_outcome held change ending)
+    (asks_line s.settings.has_asked k traffic) (outcome_events held change ids ending)
+    (silent_outcome held change ids ending)
 
 shown_sliced : (s : SessionState) → console_of (slice_told s).messages ≡ written_by slice s
 unfolding slice_told

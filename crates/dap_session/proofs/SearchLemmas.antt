@@ -4,16 +4,19 @@ use Rattle.std.proofs.Common.{sym, ap, subst}
 use Rattle.std.specs.Result.{OnOk, OnErr}
 use Rattle.lab_core.specs.Board.{Board}
 use Rattle.lab_core.specs.Labs.{LabState, RepresentsBoard}
-use Rattle.dap_history.specs.declared.goal.Goal.{Goal}
+use Rattle.dap_search.specs.declared.goal.Goal.{Goal}
 use Rattle.dap_history.specs.declared.input.Recorded.{Recorded}
 use Rattle.dap_history.specs.Runs.{board_at, after_rewind}
 use Rattle.dap_history.specs.Histories.{HistoryState, IsHistoryOf, HasRunOf, KeepsHistory, SavesIf}
 use Rattle.dap_history.specs.Histories.{is_due, unread}
-use Rattle.dap_history.specs.Searches.{SearchState, Target, IsSearchOf, SearchedOn}
+use Rattle.dap_search.specs.Goals.{Target}
+use Rattle.dap_search.specs.Searches.{SearchState, IsSearchOf, SearchedOn}
 use Rattle.dap_session.specs.States.{SessionState, with_board}
 use Rattle.dap_session.specs.Represents.{SessionFields, RepresentsSession}
-use Rattle.dap_session.specs.Rewinds.{IsRunAt, BeginsSearch, SearchedFurther, after_release, rewound}
-use Rattle.dap_session.specs.Rewinds.{target_for, held_at, recounting}
+use Rattle.dap_slice.specs.declared.conditions.ConditionalBreakpoint.{ConditionalBreakpoint}
+use Rattle.dap_search.specs.Recounts.{without_hits_between}
+use Rattle.dap_session.specs.Rewinds.{IsRunAt, BeginsSearch, SearchedFurther, after_release, put_to}
+use Rattle.dap_session.specs.Rewinds.{target_for, held_at, counting}
 use Rattle.dap_session.specs.declared.settings.SessionSettings.{SessionSettings}
 
 -- ---- moments that are saved
@@ -65,14 +68,14 @@ released_at was s new lab settings is same board =
     subst (λ (v : SessionFields). RepresentsSession v (held_at was s)) (sym is)
     (record { board = board; settings = ap after_release same })
 
--- where hits are counted from now on
-pub rewound_at : (was : Board) (s : SessionState) (new : SessionFields) (lab : LabState)
-    (settings : SessionSettings) → new ≡ record { lab = lab; settings = after_release (recounting settings) }
-    → settings ≡ s.settings → RepresentsBoard lab (after_rewind was s.board)
-    → RepresentsSession new (rewound was s)
-rewound_at was s new lab settings is same board =
-    subst (λ (v : SessionFields). RepresentsSession v (rewound was s)) (sym is)
-    (record { board = board; settings = ap (λ t. after_release (recounting t)) same })
+-- with these counts of hits
+pub put_to_at : (was : Board) (points : List ConditionalBreakpoint) (s : SessionState) (new : SessionFields)
+    (lab : LabState) (settings : SessionSettings)
+    → new ≡ record { lab = lab; settings = after_release settings } → settings ≡ counting points s.settings
+    → RepresentsBoard lab (after_rewind was s.board) → RepresentsSession new (put_to was points s)
+put_to_at was points s new lab settings is same board =
+    subst (λ (v : SessionFields). RepresentsSession v (put_to was points s)) (sym is)
+    (record { board = board; settings = ap after_release same })
 
 -- what it looks for with these settings
 abbrev pub target_in : Goal → SessionSettings → Target
@@ -92,11 +95,16 @@ begins_so goal start log count s search new lab settings is same searched = reco
 
 pub found_so : (goal : Goal) (start : Board) (log : List Recorded) (n m : ℕ) (s : SessionState)
     (search : SearchState) (new : SessionFields) (lab : LabState) (settings : SessionSettings)
-    → new ≡ record { lab = lab; settings = after_release (recounting settings) } → settings ≡ s.settings
+    → new ≡ record { lab = lab; settings = after_release settings }
+    → settings ≡ counting (without_hits_between s.settings.conditional start log s.board m n) s.settings
     → SearchedOn start log s.board (target_for goal s) n (Some m) search lab
     → SearchedFurther goal start log n s (Some m) search new
-found_so goal start log n m s search new lab settings is same searched =
-    (searched.0, rewound_at (board_at start log m) s new lab settings is same searched.1)
+found_so goal start log n m s search new lab settings is same searched = (
+  searched.0,
+  put_to_at (board_at start log m)
+      (without_hits_between s.settings.conditional start log s.board m n) s new lab
+      settings is same searched.1,
+)
 
 pub goes_on_so : (goal : Goal) (start : Board) (log : List Recorded) (n : ℕ) (s : SessionState)
     (search : SearchState) (new : SessionFields) (lab : LabState) (settings : SessionSettings)

@@ -1,6 +1,6 @@
 -- What is told of stops and of ends where a program begins.
 use Rattle.std.proofs.Common.{◌≡◌, ◌∙◌, ℕ, List, [], ◌∷◌, ◌++◌, Bool, true, false, not, Option, Some}
-use Rattle.std.proofs.Common.{None, Result, take}
+use Rattle.std.proofs.Common.{None, Result}
 use Rattle.std.proofs.Common.{Ok, Err, option_to_list, if◌then◌else◌, refl, sym, ap, subst, fold}
 use Rattle.std.proofs.lemmas.Bool.{and_parts}
 use Rattle.base_text.specs.Bytes.{Text}
@@ -35,8 +35,7 @@ use Rattle.dap_launch.specs.Files.{text_in}
 use Rattle.dap_launch.specs.Lives.{in_phase, is_over, is_live}
 use Rattle.dap_launch.specs.Programs.{pauses, going_follow, begun_follow, program_of}
 use Rattle.dap_launch.specs.Points.{all_changed}
-use Rattle.dap_launch.specs.Programs.{program_board, program_lines, with_input, begun_if, board_if}
-use Rattle.dap_program.specs.Breakpoints.{labels_behind}
+use Rattle.dap_launch.specs.Programs.{program_board, program_lists, placed_on, with_input, begun_if, board_if}
 use Rattle.dap_session.specs.Launches.{installing, beginning_in, beginning_where, started_follow}
 use Rattle.dap_session.specs.Launches.{loading_as, by_text, loading, launching_over, restarting_of}
 use Rattle.dap_session.specs.Requests.{set_configured}
@@ -201,8 +200,7 @@ follows_installing o l start b s reached none attached goes =
     let points = all_changed s.settings.program s.board p kept b in
     let last = events_of (started_follow o p s) in
     let board = program_board p kept b in
-    let lines = program_lines p kept b in
-    let run = kept_armed l.program lines (labels_behind b lines (take 256 kept.functions)) b in
+    let run = kept_armed l.program (placed_on b (program_lists p kept)).on_board b in
     calm_follows (first_events o) (changed_events points ++ last) _ _ (calm_first o)
     (calm_follows (changed_events points) last _ _ (calm_changed points)
     (follows_started s.settings.is_configured o l start s board refl reached (run.run ∙ none)

@@ -14,6 +14,8 @@ use Rattle.lab_core.specs.declared.answer.End.TheVariants as end
 use Rattle.lab_shown.specs.declared.place.PlaceChange.{PlaceChange}
 use Rattle.lab_core.specs.declared.answer.SliceOutcome.{SliceOutcome}
 use Rattle.lab_core.specs.declared.answer.SliceOutcome.TheVariants as outcome
+use Rattle.lab_core.specs.declared.answer.Stop.{Stop}
+use Rattle.lab_core.specs.declared.answer.Stop.TheVariants as stop
 use Rattle.lab_core.specs.declared.event.Event.TheVariants as event
 use Rattle.lab_core.specs.declared.run_state.RunState.{RunState}
 use Rattle.lab_core.specs.declared.run_state.RunState.TheVariants.{NoRun, Running, Stopped}
@@ -34,9 +36,10 @@ use Rattle.dap_editor.specs.declared.request.EditorCommand.{EditorCommand}
 use Rattle.dap_editor.specs.declared.request.EditorCommand.TheVariants as editor
 use Rattle.dap_program.specs.Messages.{as_messages}
 use Rattle.dap_program.specs.Slices.{log_events, console_events, line_events, outcome_events, run_end_events}
+use Rattle.dap_program.specs.Slices.{stop_event}
 use Rattle.dap_slice.specs.declared.logs.LogLine.{LogLine}
 use Rattle.dap_slice.specs.Logs.{logs_before}
-use Rattle.dap_slice.specs.SliceEnds.{change_after}
+use Rattle.dap_slice.specs.SliceEnds.{change_after, ids_after}
 use Rattle.dap_program.specs.Slices.{asks_line}
 use Rattle.dap_messages.specs.declared.message.UndefinedOpcode.{UndefinedOpcode}
 use Rattle.dap_editor.specs.declared.request.Launch.{Launch as LaunchOf}
@@ -311,18 +314,26 @@ left o b s = record {
   settings = settings_after o s.settings;
 }
 
-follows_outcome : (c : Option PlaceChange) (o : SliceOutcome) (b : Board) (s : SessionState)
+-- one of these events says that the run is stopped
+follows_stop : (c : Option PlaceChange) (ids : List ℕ) (r : Stop) (s : SessionState) → IsReached (seen s)
+    → has_run s.board.run ≡ true
+    → Follows (seen s) (as_messages (stop_event c ids r ∷ [])) (with_run Stopped (seen s))
+follows_stop (Some change) ids r s reached has = runs_on Stopped (seen s) _ reached has refl refl refl
+follows_stop None ids stop.Breakpoint s reached has = runs_on Stopped (seen s) _ reached has refl refl refl
+follows_stop None ids other s reached has = runs_on Stopped (seen s) _ reached has refl refl refl
+
+follows_outcome : (c : Option PlaceChange) (ids : List ℕ) (o : SliceOutcome) (b : Board) (s : SessionState)
     → SameRun s.board b → IsReached (seen s) → has_run s.board.run ≡ true
-    → Follows (seen s) (as_messages (outcome_events (held_in s) c o)) (seen (left o b s))
-follows_outcome c outcome.More b s kept reached has =
+    → Follows (seen s) (as_messages (outcome_events (held_in s) c ids o)) (seen (left o b s))
+follows_outcome c ids outcome.More b s kept reached has =
     (still s (with_board b s) reached (seen_board b s kept)).follows
-follows_outcome c outcome.Waiting b s kept reached has =
+follows_outcome c ids outcome.Waiting b s kept reached has =
     (still s (with_board b s) reached (seen_board b s kept)).follows
-follows_outcome c (outcome.Stop r) b s kept reached has =
-    let es = as_messages (outcome_events (held_in s) c (outcome.Stop r)) in
+follows_outcome c ids (outcome.Stop r) b s kept reached has =
+    let es = as_messages (outcome_events (held_in s) c ids (outcome.Stop r)) in
     subst (λ a. Follows (seen s) es (record (with_run Stopped (seen s)) { is_attached = a }))
-    (sym kept.is_attached) (runs_on Stopped (seen s) es reached has refl refl refl)
-follows_outcome c (outcome.End e) b s kept reached has =
+    (sym kept.is_attached) (follows_stop c ids r s reached has)
+follows_outcome c ids (outcome.End e) b s kept reached has =
     follows_end s.settings.filters s.settings.program e b s refl kept reached has
 
 pub follows_slicing : (p : ℕ × SliceOutcome) (s : SessionState) → IsReached (seen s) → has_run
@@ -333,14 +344,15 @@ follows_slicing (k, ending) s reached has =
     let asks = asks_line s.settings.has_asked k (traffic_of k s.board) in
     let noted : SessionState = record s { settings = with_question asks (with_hits k s) } in
     let change = change_after s.settings.conditional (k, ending) s.board in
-    let last = outcome_events (held_in s) change ending in
+    let ids = ids_after s.settings.conditional (k, ending) s.board in
+    let last = outcome_events (held_in s) change ids ending in
     let logs = logs_before s.settings.conditional k s.board in
     calm_follows (log_events logs) (console_events written ++ (line_events asks ++ last)) _ _
     (calm_logs logs)
     (calm_follows (console_events written) (line_events asks ++ last) _ _
     (calm_console written)
     (calm_follows (line_events asks) last _ _ (calm_line asks)
-    (follows_outcome change ending (after_steps k s.board) noted (kept_steps k s.board) reached has)))
+    (follows_outcome change ids ending (after_steps k s.board) noted (kept_steps k s.board) reached has)))
 
 pub running_has : (r : RunState) → is_running r ≡ true → has_run r ≡ true
 running_has NoRun is = absurd (true≢false (sym is))

@@ -45,7 +45,8 @@ use Rattle.dap_messages.specs.declared.message.EditorEvent.TheVariants as event_
 use Rattle.dap_program.specs.Messages.{as_messages, event_if, change_events, events_of}
 use Rattle.dap_session.specs.States.{SessionState, with_board, program_over, program_released}
 use Rattle.dap_session.specs.Turns.{Replied, change_follow, refusing, accepting}
-use Rattle.dap_session.specs.Breakpoints.{program_at, setting_lines, setting_functions}
+use Rattle.dap_launch.specs.Programs.{program_at}
+use Rattle.dap_session.specs.Breakpoints.{setting_lines, setting_functions}
 use Rattle.dap_session.specs.Evaluations.{command_reply}
 use Rattle.dap_inputs.specs.Prompt.{behind, byte_spelled, byte_command, command_with}
 use Rattle.dap_session.specs.Evaluations.{value_told, prompting, evaluating}

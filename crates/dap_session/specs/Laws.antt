@@ -89,6 +89,7 @@ pub data Shown : Type 0 where
 -- what it shows after one more message
 abbrev pub shown_after : Shown → Message → Shown
 shown_after before (message.Event (event.Stopped reason)) = stopped
+shown_after before (message.Event (event.StoppedAt breakpoints)) = stopped
 shown_after before (message.Event event.Continued) = unstopped
 shown_after before (message.Event event.Terminated) = unstopped
 shown_after before other = before

@@ -1,15 +1,13 @@
 -- Which states a session represents.
-use Rattle.std.specs.Prelude.{◌≡◌, ℕ, Option, unwrap_or, Result, List, OnErr, IfOk, true}
+use Rattle.std.specs.Prelude.{◌≡◌, ℕ, Option, Result, List, OnErr, IfOk, true}
 use Rattle.std.specs.declared.alloc.AllocError.{AllocError}
 use Rattle.lab_core.specs.Labs.{LabState, RepresentsBoard}
 use Rattle.dap_messages.specs.declared.message.Message.{Message}
 use Rattle.dap_session.specs.declared.settings.SessionSettings.{SessionSettings}
-use Rattle.dap_points.specs.Points.{WantedBreakpointsState}
 use Rattle.dap_slice.specs.declared.conditions.ConditionalBreakpoint.{ConditionalBreakpoint}
 use Rattle.dap_launch.specs.declared.program.Program.{Program}
 use Rattle.dap_launch.specs.declared.reply.Reply.{Reply}
-use Rattle.dap_launch.specs.Programs.{ProgramLists}
-use Rattle.dap_session.specs.Breakpoints.{armed_where, conditional_where}
+use Rattle.dap_session.specs.Breakpoints.{SetList, armed_where, kept_or, conditional_where}
 use Rattle.dap_session.specs.States.{SessionState, with_board, wants_slice}
 use Rattle.dap_session.specs.Turns.{Replied}
 use Rattle.dap_session.specs.Slices.{Told, slicing, slice_end_in}
@@ -65,20 +63,20 @@ pub record SlicesWithin (n : ℕ) (s : SessionState) (slice : RunSlice) (new : S
 
 -- ---- breakpoints
 
--- These are the breakpoints with options, and those that aren't on lines, of the program with what is wanted
--- of it; `None` means that they stay what they were.
-abbrev pub FindsWanted : (WantedBreakpointsState → Program → ProgramLists) → SessionFields
-    → Result (Option (List ConditionalBreakpoint)) AllocError → Type 0
-FindsWanted wanted old result = (s : SessionState) → RepresentsSession old s → IfOk result (λ points.
-    unwrap_or points s.settings.conditional
-    ≡ conditional_where s.settings.program (wanted s.settings.points) s)
+-- These are new breakpoints at which the program's run stops, now that this list is set; `None` means that
+-- they stay what they were.
+abbrev pub FindsWanted : SetList → SessionFields → Result (Option (List ConditionalBreakpoint)) AllocError
+    → Type 0
+FindsWanted l old result = (s : SessionState) → RepresentsSession old s → IfOk result (λ points.
+    kept_or (l.number s.settings.points) points s.settings.conditional
+    ≡ conditional_where l s.settings.program s)
 
 -- the same of the program that is found, whose board stops there
-abbrev pub ArmsWanted : (Option Program → Option Program) → (WantedBreakpointsState → Program → ProgramLists)
-    → SessionFields → Result (Option (List ConditionalBreakpoint)) AllocError → SessionFields
+abbrev pub ArmsWanted : SetList → (Option Program → Option Program) → SessionFields
+    → Result (Option (List ConditionalBreakpoint)) AllocError → SessionFields
     → Type 0
-ArmsWanted find wanted old result new = (s : SessionState) → RepresentsSession old s → IfOk result (λ points.
-    (unwrap_or points s.settings.conditional
-    ≡ conditional_where (find s.settings.program) (wanted s.settings.points) s)
+ArmsWanted l find old result new = (s : SessionState) → RepresentsSession old s → IfOk result (λ points.
+    (kept_or (l.number s.settings.points) points s.settings.conditional
+    ≡ conditional_where l (find s.settings.program) s)
     × RepresentsSession new
-    (with_board (armed_where (find s.settings.program) (wanted s.settings.points) s.board) s))
+    (with_board (armed_where (find s.settings.program) (l.wanted s.settings.points) s.board) s))

@@ -1,13 +1,16 @@
 -- A session whose run goes back.
 use Rattle.std.specs.Prelude.{◌≡◌, ℕ, List, Bool, true, false, ◌&&◌, Option, Some, None, option_map}
 use Rattle.lab_core.specs.Board.{Board}
-use Rattle.dap_history.specs.declared.goal.Goal.{Goal}
+use Rattle.dap_search.specs.declared.goal.Goal.{Goal}
 use Rattle.dap_history.specs.declared.input.Recorded.{Recorded}
 use Rattle.dap_history.specs.Histories.{HistoryState, IsHistoryOf, KeepsHistory}
-use Rattle.dap_history.specs.Searches.{SearchState, Target, IsSearchOf, goal_below}
+use Rattle.dap_search.specs.Goals.{Target, goal_below}
+use Rattle.dap_search.specs.Searches.{SearchState, IsSearchOf}
 use Rattle.dap_history.specs.Runs.{board_at, after_rewind}
 use Rattle.dap_launch.specs.declared.program.Program.{Program}
+use Rattle.dap_slice.specs.declared.conditions.ConditionalBreakpoint.{ConditionalBreakpoint}
 use Rattle.dap_slice.specs.Counts.{without_hits}
+use Rattle.dap_search.specs.Recounts.{without_hits_between}
 use Rattle.dap_launch.specs.Lives.{released_program}
 use Rattle.dap_session.specs.States.{SessionState, with_board}
 use Rattle.dap_session.specs.Turns.{Turn}
@@ -38,13 +41,25 @@ after_release t = record t { program = option_map released_program t.program; wa
 abbrev pub held_at : Board → SessionState → SessionState
 held_at was s = record { board = after_rewind was s.board; settings = after_release s.settings }
 
--- hits are counted from now on
-abbrev pub recounting : SessionSettings → SessionSettings
-recounting t = record t { conditional = without_hits t.conditional }
+-- the breakpoints have counted so many hits
+abbrev pub counting : List ConditionalBreakpoint → SessionSettings → SessionSettings
+counting points t = record t { conditional = points }
 
--- the run is put to this board, where breakpoints have no hits yet
+-- the run is put to this board, where the breakpoints have counted so many hits
+abbrev pub put_to : Board → List ConditionalBreakpoint → SessionState → SessionState
+put_to was points s = record {
+  board = after_rewind was s.board;
+  settings = after_release (counting points s.settings);
+}
+
+-- where they have no hits yet
 abbrev pub rewound : Board → SessionState → SessionState
-rewound was s = record { board = after_rewind was s.board; settings = after_release (recounting s.settings) }
+rewound was s = put_to was (without_hits s.settings.conditional) s
+
+-- the run is put back from n to m steps, and the hits of those between are taken away
+abbrev pub after_search : Board → List Recorded → ℕ → ℕ → SessionState → SessionState
+after_search start log n m s =
+    put_to (board_at start log m) (without_hits_between s.settings.conditional start log s.board m n) s
 
 -- The session's run is the one of this history after so many steps: machine, devices and trace are the same.
 pub record IsRunAt (start : Board) (h : HistoryState) (count : ℕ) (v : SessionFields) : Type 0 where
@@ -89,7 +104,7 @@ SearchedFurther goal start log n s None search new =
     × RepresentsSession new (with_board (after_rewind (board_at start log n) s.board) s)
 SearchedFurther goal start log n s (Some m) search new =
     (m ≡ goal_below (target_for goal s) start log s.board n)
-    × RepresentsSession new (rewound (board_at start log m) s)
+    × RepresentsSession new (after_search start log n m s)
 
 -- so it is for each search of a session's run that goes on
 abbrev pub ForEachSearch : HistoryState → SearchState → SessionFields

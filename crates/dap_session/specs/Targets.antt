@@ -13,7 +13,7 @@ use Rattle.dap_lines.specs.Targets.{first_target}
 use Rattle.dap_launch.specs.declared.program.Program.{Program}
 use Rattle.dap_session.specs.States.{SessionState, with_board, program_released}
 use Rattle.dap_session.specs.Turns.{Replied, refusing, succeeding, accepting}
-use Rattle.dap_session.specs.Breakpoints.{program_at}
+use Rattle.dap_launch.specs.Programs.{program_at}
 use Rattle.dap_session.specs.Memory.{is_stopped}
 
 -- only in the program

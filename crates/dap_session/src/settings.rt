@@ -18,7 +18,7 @@ pub struct SessionSettings {
     pub supported: SupportedEvents,
     pub program: Option<Program>,
     pub points: WantedBreakpoints,
-    /// Those of the program that have options.
+    /// Those at which the program's run stops.
     pub conditional: ConditionalBreakpoints,
     /// The ends at which a run is to be held.
     pub filters: ExceptionFilters,

@@ -1,7 +1,6 @@
 //! Plays.
 
-use crate::rows::first_other;
-use std::test::Fail;
+use crate::rows::expect_play;
 
 /// A run from launch to HLT, with a breakpoint that was set before the launch.
 const RUN: &str = r#"
@@ -34,12 +33,12 @@ configurationDone
   9 "configurationDone" true {}
 slice
   "output" {"category":"stdout","output":"A"}
-  "stopped" {"allThreadsStopped":true,"reason":"breakpoint","threadId":1}
+  "stopped" {"allThreadsStopped":true,"hitBreakpointIds":[1],"reason":"function breakpoint","threadId":1}
 continue
   11 "continue" true {"allThreadsContinued":true}
   "continued" {"allThreadsContinued":true,"threadId":1}
 slice
-  "stopped" {"allThreadsStopped":true,"reason":"breakpoint","threadId":1}
+  "stopped" {"allThreadsStopped":true,"hitBreakpointIds":[257],"reason":"breakpoint","threadId":1}
 loadedSources
   13 "loadedSources" true {"sources":[{"name":"count.asm","path":"count.asm"}]}
 "#;
@@ -292,43 +291,36 @@ writeMemory {"memoryReference":"0x0300","data":"AQL/"}
 "#;
 
 #[test]
-fn a_run_is_told(rt: HostRuntime) -> Result<(), Fail> {
-    assert_eq!(rt; first_other(rt.alloc(), RUN)?, None);
-    Ok(())
+fn a_run_is_told(rt: HostRuntime) {
+    expect_play(&rt, RUN);
 }
 
 #[test]
-fn steps_are_told(rt: HostRuntime) -> Result<(), Fail> {
-    assert_eq!(rt; first_other(rt.alloc(), STEPS)?, None);
-    Ok(())
+fn steps_are_told(rt: HostRuntime) {
+    expect_play(&rt, STEPS);
 }
 
 #[test]
-fn ends_are_told(rt: HostRuntime) -> Result<(), Fail> {
-    assert_eq!(rt; first_other(rt.alloc(), ENDS)?, None);
-    Ok(())
+fn ends_are_told(rt: HostRuntime) {
+    expect_play(&rt, ENDS);
 }
 
 #[test]
-fn ends_are_held(rt: HostRuntime) -> Result<(), Fail> {
-    assert_eq!(rt; first_other(rt.alloc(), HELD)?, None);
-    Ok(())
+fn ends_are_held(rt: HostRuntime) {
+    expect_play(&rt, HELD);
 }
 
 #[test]
-fn no_run_without_debugging_is_held(rt: HostRuntime) -> Result<(), Fail> {
-    assert_eq!(rt; first_other(rt.alloc(), UNHELD)?, None);
-    Ok(())
+fn no_run_without_debugging_is_held(rt: HostRuntime) {
+    expect_play(&rt, UNHELD);
 }
 
 #[test]
-fn changes_by_hand_are_told(rt: HostRuntime) -> Result<(), Fail> {
-    assert_eq!(rt; first_other(rt.alloc(), CHANGES)?, None);
-    Ok(())
+fn changes_by_hand_are_told(rt: HostRuntime) {
+    expect_play(&rt, CHANGES);
 }
 
 #[test]
-fn only_what_is_understood_is_told(rt: HostRuntime) -> Result<(), Fail> {
-    assert_eq!(rt; first_other(rt.alloc(), MEMORY)?, None);
-    Ok(())
+fn only_what_is_understood_is_told(rt: HostRuntime) {
+    expect_play(&rt, MEMORY);
 }

@@ -1,7 +1,6 @@
 //! Plays about breakpoints.
 
-use crate::rows::first_other;
-use std::test::Fail;
+use crate::rows::expect_play;
 
 /// Breakpoints of a program, and what becomes of them when it is loaded anew.
 const POINTS: &str = r#"
@@ -48,7 +47,7 @@ restart < loop
 configurationDone
   8 "configurationDone" true {}
 slice
-  "stopped" {"allThreadsStopped":true,"reason":"breakpoint","threadId":1}
+  "stopped" {"allThreadsStopped":true,"hitBreakpointIds":[257],"reason":"breakpoint","threadId":1}
 "#;
 
 /// Breakpoints with conditions: faults in them, those that are true at last, and a `next` over one that is
@@ -85,7 +84,7 @@ slice
 slice
   "output" {"category":"stdout","output":"."}
 slice
-  "stopped" {"allThreadsStopped":true,"reason":"breakpoint","threadId":1}
+  "stopped" {"allThreadsStopped":true,"hitBreakpointIds":[2],"reason":"function breakpoint","threadId":1}
 evaluate {"expression":"B","context":"hover"}
   11 "evaluate" true {"result":"001H","variablesReference":0}
 continue {"threadId":1}
@@ -93,7 +92,7 @@ continue {"threadId":1}
   "continued" {"allThreadsContinued":true,"threadId":1}
 slice
   "output" {"category":"stdout","output":"."}
-  "stopped" {"allThreadsStopped":true,"reason":"breakpoint","threadId":1}
+  "stopped" {"allThreadsStopped":true,"hitBreakpointIds":[257],"reason":"breakpoint","threadId":1}
 setBreakpoints {"source":{"path":"count.asm"},"breakpoints":[{"line":9,"condition":"B > 3"}]}
   14 "setBreakpoints" true {"breakpoints":[{"id":257,"line":9,"verified":true}]}
 setFunctionBreakpoints {"breakpoints":[]}
@@ -181,7 +180,7 @@ restart < counts
   16 "restart" true {}
   "continued" {"allThreadsContinued":true,"threadId":1}
 slice
-  "stopped" {"allThreadsStopped":true,"reason":"breakpoint","threadId":1}
+  "stopped" {"allThreadsStopped":true,"hitBreakpointIds":[257],"reason":"breakpoint","threadId":1}
 next {"threadId":1}
   18 "next" true {}
   "continued" {"allThreadsContinued":true,"threadId":1}
@@ -199,7 +198,7 @@ continue {"threadId":1}
 slice
   "output" {"category":"console","column":1,"line":5,"output":"back\n",
     "source":{"name":"count.asm","path":"count.asm"}}
-  "stopped" {"allThreadsStopped":true,"reason":"breakpoint","threadId":1}
+  "stopped" {"allThreadsStopped":true,"hitBreakpointIds":[257],"reason":"breakpoint","threadId":1}
 "#;
 
 /// Breakpoints on data: before a launch, those that can't be, a stack that changes, a condition, and a `next`
@@ -249,7 +248,7 @@ continue {"threadId":1}
 slice
 slice
   "stopped" {"allThreadsStopped":true,"description":"01FE: 08H, was 00H, by 0105",
-    "reason":"data breakpoint","threadId":1}
+    "hitBreakpointIds":[262402],"reason":"data breakpoint","threadId":1}
 continue {"threadId":1}
   14 "continue" true {"allThreadsContinued":true}
   "continued" {"allThreadsContinued":true,"threadId":1}
@@ -257,7 +256,7 @@ slice
 slice
   "output" {"category":"stdout","output":"."}
   "stopped" {"allThreadsStopped":true,"description":"B: 02H, was 03H, by 0108",
-    "reason":"data breakpoint","threadId":1}
+    "hitBreakpointIds":[262401],"reason":"data breakpoint","threadId":1}
 next {"threadId":1}
   17 "next" true {}
   "continued" {"allThreadsContinued":true,"threadId":1}
@@ -274,7 +273,7 @@ next {"threadId":1}
   "continued" {"allThreadsContinued":true,"threadId":1}
 slice
   "stopped" {"allThreadsStopped":true,"description":"B: 01H, was 02H, by 0108",
-    "reason":"data breakpoint","threadId":1}
+    "hitBreakpointIds":[262401],"reason":"data breakpoint","threadId":1}
 setDataBreakpoints {"breakpoints":[]}
   23 "setDataBreakpoints" true {"breakpoints":[]}
 continue {"threadId":1}
@@ -307,7 +306,8 @@ continue {"threadId":1}
   "continued" {"allThreadsContinued":true,"threadId":1}
 slice
   "output" {"category":"stdout","output":"."}
-  "stopped" {"allThreadsStopped":true,"reason":"breakpoint","threadId":1}
+  "stopped" {"allThreadsStopped":true,"hitBreakpointIds":[262657],
+    "reason":"instruction breakpoint","threadId":1}
 setInstructionBreakpoints {"breakpoints":[
     {"instructionReference":"0x0100","offset":8,"condition":"B LT 2"},
     {"instructionReference":"0x0000","offset":-1},
@@ -327,13 +327,15 @@ slice
 slice
   "output" {"category":"stdout","output":"."}
 slice
-  "stopped" {"allThreadsStopped":true,"reason":"breakpoint","threadId":1}
+  "stopped" {"allThreadsStopped":true,"hitBreakpointIds":[262660],
+    "reason":"instruction breakpoint","threadId":1}
 continue {"threadId":1}
   11 "continue" true {"allThreadsContinued":true}
   "continued" {"allThreadsContinued":true,"threadId":1}
 slice
   "output" {"category":"stdout","output":"."}
-  "stopped" {"allThreadsStopped":true,"reason":"breakpoint","threadId":1}
+  "stopped" {"allThreadsStopped":true,"hitBreakpointIds":[262657],
+    "reason":"instruction breakpoint","threadId":1}
 evaluate {"expression":"B","context":"watch"}
   13 "evaluate" true {"result":"001H","variablesReference":0}
 restart < counts
@@ -344,8 +346,8 @@ setInstructionBreakpoints {"breakpoints":[]}
 "#;
 
 /// Hit conditions: a line stopped at its third hit, every second one told at a label, and counts that begin
-/// anew at a restart and where breakpoints are set; those that can't be, data, and a `next` over a hit that
-/// isn't asked for.
+/// anew at a restart and where their own list is set, but not where another is; those that can't be, data,
+/// and a `next` over a hit that isn't asked for.
 const HITS: &str = r#"
 initialize
   0 "initialize" true CAPABILITIES
@@ -370,7 +372,7 @@ slice
 slice
 slice
   "output" {"category":"stdout","output":"."}
-  "stopped" {"allThreadsStopped":true,"reason":"breakpoint","threadId":1}
+  "stopped" {"allThreadsStopped":true,"hitBreakpointIds":[257],"reason":"breakpoint","threadId":1}
 evaluate {"expression":"B","context":"hover"}
   11 "evaluate" true {"result":"001H","variablesReference":0}
 restart < counts
@@ -383,11 +385,13 @@ slice
 setBreakpoints {"source":{"path":"count.asm"},"breakpoints":[{"line":5,"hitCondition":">= 2"}]}
   16 "setBreakpoints" true {"breakpoints":[{"id":257,"line":5,"verified":true}]}
 slice
+  "output" {"category":"console","column":1,"line":8,"output":"B is 2\n",
+    "source":{"name":"count.asm","path":"count.asm"}}
   "output" {"category":"stdout","output":"."}
 slice
 slice
   "output" {"category":"stdout","output":"."}
-  "stopped" {"allThreadsStopped":true,"reason":"breakpoint","threadId":1}
+  "stopped" {"allThreadsStopped":true,"hitBreakpointIds":[257],"reason":"breakpoint","threadId":1}
 setBreakpoints {"source":{"path":"count.asm"},"breakpoints":[{"line":5,"hitCondition":"< 1"},
     {"line":5,"hitCondition":"> 4294967295"},{"line":5,"hitCondition":"%0"},
     {"line":5,"hitCondition":"5 5"},{"line":5,"hitCondition":" "},{"line":5,"hitCondition":""},
@@ -417,7 +421,7 @@ restart < counts
   24 "restart" true {}
   "continued" {"allThreadsContinued":true,"threadId":1}
 slice
-  "stopped" {"allThreadsStopped":true,"reason":"breakpoint","threadId":1}
+  "stopped" {"allThreadsStopped":true,"hitBreakpointIds":[2],"reason":"function breakpoint","threadId":1}
 continue
   26 "continue" true {"allThreadsContinued":true}
   "continued" {"allThreadsContinued":true,"threadId":1}
@@ -426,7 +430,7 @@ slice
 slice
   "output" {"category":"stdout","output":"."}
   "stopped" {"allThreadsStopped":true,"description":"B: 02H, was 03H, by 0108",
-    "reason":"data breakpoint","threadId":1}
+    "hitBreakpointIds":[262401],"reason":"data breakpoint","threadId":1}
 next {"threadId":1}
   30 "next" true {}
   "continued" {"allThreadsContinued":true,"threadId":1}
@@ -442,37 +446,31 @@ slice
 "#;
 
 #[test]
-fn breakpoints_are_placed(rt: HostRuntime) -> Result<(), Fail> {
-    assert_eq!(rt; first_other(rt.alloc(), POINTS)?, None);
-    Ok(())
+fn breakpoints_are_placed(rt: HostRuntime) {
+    expect_play(&rt, POINTS);
 }
 
 #[test]
-fn conditions_are_asked(rt: HostRuntime) -> Result<(), Fail> {
-    assert_eq!(rt; first_other(rt.alloc(), CONDITIONS)?, None);
-    Ok(())
+fn conditions_are_asked(rt: HostRuntime) {
+    expect_play(&rt, CONDITIONS);
 }
 
 #[test]
-fn log_messages_are_told(rt: HostRuntime) -> Result<(), Fail> {
-    assert_eq!(rt; first_other(rt.alloc(), LOGS)?, None);
-    Ok(())
+fn log_messages_are_told(rt: HostRuntime) {
+    expect_play(&rt, LOGS);
 }
 
 #[test]
-fn changes_stop_the_run(rt: HostRuntime) -> Result<(), Fail> {
-    assert_eq!(rt; first_other(rt.alloc(), DATA)?, None);
-    Ok(())
+fn changes_stop_the_run(rt: HostRuntime) {
+    expect_play(&rt, DATA);
 }
 
 #[test]
-fn instructions_stop_the_run(rt: HostRuntime) -> Result<(), Fail> {
-    assert_eq!(rt; first_other(rt.alloc(), INSTRUCTIONS)?, None);
-    Ok(())
+fn instructions_stop_the_run(rt: HostRuntime) {
+    expect_play(&rt, INSTRUCTIONS);
 }
 
 #[test]
-fn hits_are_counted(rt: HostRuntime) -> Result<(), Fail> {
-    assert_eq!(rt; first_other(rt.alloc(), HITS)?, None);
-    Ok(())
+fn hits_are_counted(rt: HostRuntime) {
+    expect_play(&rt, HITS);
 }

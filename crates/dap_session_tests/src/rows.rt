@@ -12,8 +12,8 @@ use dap_messages::json::message_json;
 use dap_messages::message::Message;
 use dap_session::session::Session;
 use serde_json::Value;
-use std::alloc::{AllocError, Global};
-use std::test::Fail;
+use std::alloc::{AllocError, AllocGlobal, Global};
+use std::process::Abort;
 
 /// Writes `AB` and halts. Its statements stand in the lines 3 to 7.
 const LETTERS: &str = "\
@@ -126,14 +126,24 @@ fn file(alloc: Global, name: &str) -> Result<FileText, AllocError> {
     }
 }
 
-// The request with this command, and with its arguments if it has some.
-fn request(alloc: Global, seq: usize, asked: &str) -> Result<EditorRequest, Fail> {
+// The text of the request with this number and command, and with its arguments if it has some.
+fn request_text(alloc: Global, seq: u32, asked: &str) -> Result<String, AllocError> {
     let (command, arguments) = asked.split_once(" ").unwrap_or((asked, "null"));
-    let text = format!(in alloc;
+    format!(in alloc;
         "{{\"seq\":{seq},\"type\":\"request\",\"command\":\"{command}\",\"arguments\":{arguments}}}"
-    )?;
-    let value = Value::from_str(alloc, text.as_str())?;
-    Ok(read_editor_request(alloc, &value)?)
+    )
+}
+
+fn request(alloc: Global, seq: u32, asked: &str) -> Result<EditorRequest, AllocError> {
+    let text = request_text(alloc, seq, asked)?;
+    match Value::from_str(alloc, text.as_str()) {
+        Ok(value) => {
+            let request = read_editor_request(alloc, &value);
+            drop(value);
+            request
+        }
+        Err(_) => Ok(EditorRequest::unreadable(alloc)),
+    }
 }
 
 // Answers a request. If it needs a path, the program of this name is found there.
@@ -143,26 +153,31 @@ fn answer(
     request: EditorRequest,
     name: &str,
 ) -> Result<Sequence<Message>, AllocError> {
-    let found = match session.wanted_file(&request) {
-        Some(_) => Some(file(alloc, name)?),
-        None => None,
-    };
-    session.take(alloc, request, found)
+    if session.wanted_file(&request).is_none() {
+        return session.take(alloc, request, None);
+    }
+    match file(alloc, name) {
+        Ok(found) => session.take(alloc, request, Some(found)),
+        Err(fault) => {
+            drop(request);
+            Err(fault)
+        }
+    }
 }
 
 // What goes out for what is asked. A request has this number.
 fn play(
     alloc: Global,
     session: &mut Session,
-    seq: usize,
+    seq: u32,
     asked: &str,
-) -> Result<Sequence<Message>, Fail> {
+) -> Result<Sequence<Message>, AllocError> {
     if asked == "slice" {
-        return Ok(session.run(alloc)?);
+        return session.run(alloc);
     }
     let (asked, name) = asked.split_once(" < ").unwrap_or((asked, ""));
     let request = request(alloc, seq, asked)?;
-    Ok(answer(alloc, session, request, name)?)
+    answer(alloc, session, request, name)
 }
 
 // The members of a message that are told, each with a blank before it.
@@ -175,38 +190,55 @@ const MEMBERS: [&str; 6] = [
     "body",
 ];
 
+fn push_member(out: &mut String, alloc: Global, member: Option<&Value>) -> Result<(), AllocError> {
+    match member {
+        Some(found) => {
+            let text = found.to_string(alloc)?;
+            out.push_str(" ")?;
+            out.push_str(text.as_str())
+        }
+        None => Ok(()),
+    }
+}
+
 fn push_members(out: &mut String, alloc: Global, value: &Value) -> Result<(), AllocError> {
     for member in MEMBERS {
-        if let Some(found) = value.get(member) {
-            let text = found.to_string(alloc)?;
-            write!(out, " {}", text.as_str())?;
-        }
+        push_member(out, alloc, value.get(member))?;
     }
     Ok(())
 }
 
+// Adds a message behind ` ->`.
 fn push_message(out: &mut String, alloc: Global, message: &Message) -> Result<(), AllocError> {
+    out.push_str(" ->")?;
     let value = message_json(alloc, 0, message)?;
     let pushed = push_members(out, alloc, &value);
     drop(value);
     pushed
 }
 
-// The messages, each behind ` ->`.
-fn told_of(alloc: Global, messages: &[Message]) -> Result<String, AllocError> {
-    let mut out = String::new(alloc);
+fn push_messages(out: &mut String, alloc: Global, messages: &[Message]) -> Result<(), AllocError> {
     for message in messages {
-        out.push_str(" ->")?;
-        push_message(&mut out, alloc, message)?;
+        push_message(out, alloc, message)?;
     }
-    Ok(out)
+    Ok(())
 }
 
-fn told(alloc: Global, session: &mut Session, seq: usize, asked: &str) -> Result<String, Fail> {
+// The row that is played where this is asked, and a request has this number.
+fn played(
+    alloc: Global,
+    session: &mut Session,
+    seq: u32,
+    asked: &str,
+) -> Result<String, AllocError> {
     let messages = play(alloc, session, seq, asked)?;
-    let told = told_of(alloc, messages.as_slice());
+    let mut row = String::new(alloc);
+    let pushed = row.push_str(asked);
+    let told = push_messages(&mut row, alloc, messages.as_slice());
     drop(messages);
-    Ok(told?)
+    pushed?;
+    told?;
+    Ok(row)
 }
 
 fn push_told(rows: &mut String, message: &str) -> Result<(), AllocError> {
@@ -219,45 +251,56 @@ fn push_told(rows: &mut String, message: &str) -> Result<(), AllocError> {
     }
 }
 
+fn push_line(rows: &mut String, line: &str) -> Result<(), AllocError> {
+    if let Some(rest) = line.strip_prefix("    ") {
+        return rows.push_str(rest);
+    }
+    if let Some(message) = line.strip_prefix("  ") {
+        rows.push_str(" -> ")?;
+        return push_told(rows, message);
+    }
+    rows.push_str("\n")?;
+    rows.push_str(line)
+}
+
 // The rows of a play, each in one line, with its messages behind ` -> `.
 fn rows_of(alloc: Global, play: &str) -> Result<String, AllocError> {
     let mut rows = String::new(alloc);
     for line in play.lines() {
-        if let Some(rest) = line.strip_prefix("    ") {
-            rows.push_str(rest)?;
-        } else if let Some(message) = line.strip_prefix("  ") {
-            rows.push_str(" -> ")?;
-            push_told(&mut rows, message)?;
-        } else {
-            rows.push_str("\n")?;
-            rows.push_str(line)?;
-        }
+        push_line(&mut rows, line)?;
     }
     Ok(rows)
 }
 
-fn first_other_row(
-    alloc: Global,
-    session: &mut Session,
-    rows: &str,
-) -> Result<Option<String>, Fail> {
-    for (seq, row) in rows.lines().enumerate() {
-        let (asked, _) = row.split_once(" ->").unwrap_or((row, ""));
-        let told = told(alloc, session, seq, asked)?;
-        let played = format!(in alloc; "{asked}{}", told.as_str())?;
-        if played.as_str() != row {
-            return Ok(Some(played));
+// What is played for a row must be the row.
+fn expect_row(rt: &(impl Abort + AllocGlobal), session: &mut Session, seq: u32, row: &str) {
+    let (asked, _) = row.split_once(" ->").unwrap_or((row, ""));
+    match played(rt.alloc(), session, seq, asked) {
+        Ok(played) => {
+            assert!(rt; played.as_str() == row, "{played}");
+            drop(played);
         }
+        Err(_) => rt.panic("there is no memory"),
     }
-    Ok(None)
 }
 
-/// Plays a play with a new session. The first row for which something else goes out, with that in place of
-/// what must, or `None`.
-pub fn first_other(alloc: Global, play: &str) -> Result<Option<String>, Fail> {
-    let rows = rows_of(alloc, play)?;
-    let mut session = Session::new(alloc)?;
-    let other = first_other_row(alloc, &mut session, rows.trim());
+fn expect_rows(rt: &(impl Abort + AllocGlobal), session: &mut Session, rows: &str) {
+    let mut seq = 0u32;
+    for row in rows.lines() {
+        expect_row(rt, session, seq, row);
+        seq = seq.saturating_add(1);
+    }
+}
+
+/// Plays a play with a new session. What goes out for each of its rows must be what the row says.
+pub fn expect_play(rt: &(impl Abort + AllocGlobal), play: &str) {
+    let Ok(rows) = rows_of(rt.alloc(), play) else {
+        rt.panic("there is no memory")
+    };
+    let Ok(mut session) = Session::new(rt.alloc()) else {
+        rt.panic("there is no memory")
+    };
+    expect_rows(rt, &mut session, rows.trim());
     drop(session);
-    other
+    drop(rows);
 }

@@ -1,6 +1,5 @@
 //! Plays of ends at which a run is held, of lines to which PC is set, and of what is typed first.
-use crate::rows::first_other;
-use std::test::Fail;
+use crate::rows::expect_play;
 
 /// Runs that are held at the ends that filters name, and go on from another line.
 const FILTERS: &str = r#"
@@ -137,25 +136,21 @@ slice
 "#;
 
 #[test]
-fn runs_are_held_by_filters(rt: HostRuntime) -> Result<(), Fail> {
-    assert_eq!(rt; first_other(rt.alloc(), FILTERS)?, None);
-    Ok(())
+fn runs_are_held_by_filters(rt: HostRuntime) {
+    expect_play(&rt, FILTERS);
 }
 
 #[test]
-fn no_filter_holds_without_debugging(rt: HostRuntime) -> Result<(), Fail> {
-    assert_eq!(rt; first_other(rt.alloc(), UNFILTERED)?, None);
-    Ok(())
+fn no_filter_holds_without_debugging(rt: HostRuntime) {
+    expect_play(&rt, UNFILTERED);
 }
 
 #[test]
-fn a_run_goes_on_from_a_target(rt: HostRuntime) -> Result<(), Fail> {
-    assert_eq!(rt; first_other(rt.alloc(), TARGETS)?, None);
-    Ok(())
+fn a_run_goes_on_from_a_target(rt: HostRuntime) {
+    expect_play(&rt, TARGETS);
 }
 
 #[test]
-fn input_is_typed_first(rt: HostRuntime) -> Result<(), Fail> {
-    assert_eq!(rt; first_other(rt.alloc(), INPUT)?, None);
-    Ok(())
+fn input_is_typed_first(rt: HostRuntime) {
+    expect_play(&rt, INPUT);
 }

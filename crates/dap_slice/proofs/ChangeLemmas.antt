@@ -97,6 +97,20 @@ marks_place points p t place marks marks' (Ok done) is kind marked same =
           ∙ sym (with-place points p (Some place) some)));
     }
 
+pub marks_line : (points : Points) (p : ConditionalBreakpoint) (t : Trigger) (line : ℕ) (marks : MarksState)
+    → p.trigger ≡ t → t ≡ trigger.Line line → IsMarked points marks → IsMarked (points ++ p ∷ []) marks
+marks_line points p t line marks is kind marked =
+    let this : p.trigger ≡ trigger.Line line = is ∙ kind in
+    let there : (a : ℕ) → is_there a p ≡ false = λ a. rw this refl in
+    let none : watched_by p.trigger ≡ None = rw this refl in
+    record {
+      addresses = λ a.
+          marked.addresses a ∙ (sym (or-false (is_any_at points a))
+          ∙ (ap (λ found. is_any_at points a || found) (sym (there a)) ∙ sym (at-more points p a)));
+      watches =
+          marked.watches ∙ sym (with-place points p None none ∙ append-nil (watched_places points));
+    }
+
 -- ---- where a mark is
 
 abbrev differs_at : Board → Board → Place → Bool
@@ -121,6 +135,7 @@ changed-place was b (p ∷ ps) = by p.trigger (changed-place was b ps)
         → list_any (differs_at was b) (cons_option (watched_by t) (watched_places ps))
         ≡ (is_some (change_by was b t) || is_any_changed ps was b)
     by (trigger.Address address) rest = rest
+    by (trigger.Line line) rest = rest
     by (trigger.Change place) rest =
         let same = value_at place was.machine == value_at place b.machine in
         rw (some-unless same _, rest) refl
@@ -185,6 +200,17 @@ past_address p ps address was b is = rw is (by (is_wanted p.hits && holds_on b p
     by true = refl
     by false = refl
 
+-- so is one on a line
+pub past_line : (p : ConditionalBreakpoint) (ps : Points) (line : ℕ) (was b : Board)
+    → p.trigger ≡ trigger.Line line
+    → (first_change (p ∷ ps) was b ≡ first_change ps was b) × (Watches (p ∷ ps) was b ≡ Watches ps was b)
+past_line p ps line was b is = rw is (by (is_wanted p.hits && holds_on b p.condition), refl)
+  where
+    by : (holds : Bool)
+        → option_or (if holds then None else None) (first_change ps was b) ≡ first_change ps was b
+    by true = refl
+    by false = refl
+
 -- ---- what a change is
 
 of-place : (was b : Board) (place : Place) (c : PlaceChange) → change_of was b place ≡ Some c
@@ -220,6 +246,7 @@ on-point was b p c is = by (is_wanted p.hits && holds_on b p.condition) p.trigge
         → IsStepChange was b c
     by false t is = absurd cc
     by true (trigger.Address address) is = absurd cc
+    by true (trigger.Line line) is = absurd cc
     by true (trigger.Change place) is = of-place was b place c is
 
 pub first_is : (points : Points) (was b : Board) (c : PlaceChange) → first_change points was b ≡ Some c
@@ -251,6 +278,7 @@ change-same was b b' p same = by p.trigger
         → (if is_wanted p.hits && holds_on b p.condition then change_by was b t else None)
         ≡ (if is_wanted p.hits && holds_on b' p.condition then change_by was b' t else None)
     by (trigger.Address address) = rw (same_condition b b' p.condition same) refl
+    by (trigger.Line line) = rw (same_condition b b' p.condition same) refl
     by (trigger.Change place) = rw (same_condition b b' p.condition same, same.machine) refl
 
 pub first_same : (points : Points) (was b b' : Board) → SameMachine b b'

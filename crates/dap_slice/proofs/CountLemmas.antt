@@ -47,7 +47,7 @@ any-same : (f : ConditionalBreakpoint → Bool) (ps qs : Points) → Same ps qs
     → list_any (λ p. f (core p)) ps ≡ list_any (λ p. f (core p)) qs
 any-same f ps qs same = sym (any-core f ps) ∙ (ap (list_any f) same ∙ any-core f qs)
 
-hit-same : (ps qs : Points) (id : ℕ) (was b : Board) → Same ps qs
+pub hit-same : (ps qs : Points) (id : ℕ) (was b : Board) → Same ps qs
     → is_hit ps id was b ≡ is_hit qs id was b
 hit-same ps qs id was b same = any-same (λ p. p.id == id && is_hit_by was b p) ps qs same
 
@@ -143,16 +143,20 @@ count_more all ps new was b i p inside is here made =
     made ∙ (ap (λ one. set ps i (counted_if one p)) (hit-same ps all p.id was b (so_far all ps was b i is))
     ∙ map_over_more (counted all was b) all ps i p inside is here)
 
-pub uncounted_more : (all ps : Points) (i : ℕ) (p : ConditionalBreakpoint) (hits : Option Hits)
-    → i < length all → ps ≡ map without_count (take i all) ++ drop i all
-    → hits ≡ none_yet (get_or ps i p).hits
+-- the breakpoint with other hits
+abbrev pub rehit : (ConditionalBreakpoint → Option Hits) → ConditionalBreakpoint → ConditionalBreakpoint
+rehit h p = record p { hits = h p }
+
+pub rehit_more : (h : ConditionalBreakpoint → Option Hits) (all ps : Points) (i : ℕ)
+    (p : ConditionalBreakpoint) (hits : Option Hits)
+    → i < length all → ps ≡ map (rehit h) (take i all) ++ drop i all → hits ≡ h (get_or ps i p)
     → set ps i (record (get_or ps i p) { hits = hits })
-    ≡ map without_count (take (i + 1) all) ++ drop (i + 1) all
-uncounted_more all ps i p hits inside is none =
-    let same = so-far-as without_count (λ q. refl) all ps i is in
+    ≡ map (rehit h) (take (i + 1) all) ++ drop (i + 1) all
+rehit_more h all ps i p hits inside is one =
+    let same = so-far-as (rehit h) (λ q. refl) all ps i is in
     let long = same_length ps all same in
     let here : i < length ps = omega arith in
-    rw none (map_over_more without_count all ps i (get_or ps i p) inside is (get_or_default ps i p _ here))
+    rw one (map_over_more (rehit h) all ps i (get_or ps i p) inside is (get_or_default ps i p _ here))
 
 -- what a list in a vector is after its slice was written
 pub written_back : (n : ℕ) (all ps : Points) → n ≡ length all → Same ps all
@@ -162,16 +166,16 @@ written_back n all ps long same =
     ap (λ rest. take n (ps ++ rest)) (drop_all (length ps) all (omega arith))
     ∙ (ap (take n) (append-nil ps) ∙ take_all n ps (omega arith))
 
-pub uncounted_marked : (all ps : Points) (i n : ℕ) (marks : MarksState)
-    → ps ≡ map without_count (take i all) ++ drop i all → n ≡ length all → IsMarked all marks
+pub rehit_marked : (h : ConditionalBreakpoint → Option Hits) (all ps : Points) (i n : ℕ) (marks : MarksState)
+    → ps ≡ map (rehit h) (take i all) ++ drop i all → n ≡ length all → IsMarked all marks
     → IsMarked (take n (ps ++ drop (length ps) all)) marks
-uncounted_marked all ps i n marks is long marked =
-    let same = so-far-as without_count (λ q. refl) all ps i is in
+rehit_marked h all ps i n marks is long marked =
+    let same = so-far-as (rehit h) (λ q. refl) all ps i is in
     subst (λ qs. IsMarked qs marks) (sym (written_back n all ps long same))
     (marked_same all ps marks (sym same) marked)
 
 -- one that counts no hits stays as it is
-uncounting : (is_one : Bool) (p : ConditionalBreakpoint) → p.hits ≡ None → counted_if is_one p ≡ p
+pub uncounting : (is_one : Bool) (p : ConditionalBreakpoint) → p.hits ≡ None → counted_if is_one p ≡ p
 uncounting true p none = ap (λ h. record p { hits = h }) (ap once_more none ∙ sym none)
 uncounting false p none = refl
 
@@ -213,22 +217,28 @@ map-by : (f g : ConditionalBreakpoint → ConditionalBreakpoint)
 map-by f g same [] = refl
 map-by f g same (p ∷ ps) = ap (λ q. q ∷ map f ps) (same p) ∙ ap (λ qs. g p ∷ qs) (map-by f g same ps)
 
-hit-by : (was b b' : Board) (p : ConditionalBreakpoint) → SameMachine b b'
-    → is_hit_by was b p ≡ is_hit_by was b' p
-hit-by was b b' p same = by p.trigger
+hit-by : (was was' b b' : Board) (p : ConditionalBreakpoint) → was.machine ≡ was'.machine → SameMachine b b'
+    → is_hit_by was b p ≡ is_hit_by was' b' p
+hit-by was was' b b' p before same = by p.trigger
   where
     by : (t : Trigger) → (is_come_to was b t && holds_on b p.condition)
-        ≡ (is_come_to was b' t && holds_on b' p.condition)
+        ≡ (is_come_to was' b' t && holds_on b' p.condition)
     by (trigger.Address address) = rw (same_condition b b' p.condition same, same.machine) refl
-    by (trigger.Change place) = rw (same_condition b b' p.condition same, same.machine) refl
+    by (trigger.Line line) = refl
+    by (trigger.Change place) = rw (same_condition b b' p.condition same, same.machine, before) refl
+
+-- a step of the same machine has the same hits
+pub hits_alike : (ps : Points) (was was' b b' : Board) → was.machine ≡ was'.machine → SameMachine b b'
+    → after_hits ps was b ≡ after_hits ps was' b'
+hits_alike ps was was' b b' before same =
+    map-by (counted ps was b) (counted ps was' b')
+    (λ p. ap (λ one. counted_if one p)
+    (any-by (λ q. q.id == p.id && is_hit_by was b q) (λ q. q.id == p.id && is_hit_by was' b' q)
+    (λ q. ap (λ hit. q.id == p.id && hit) (hit-by was was' b b' q before same)) ps)) ps
 
 pub hits_same : (ps : Points) (was b b' : Board) → SameMachine b b'
     → after_hits ps was b ≡ after_hits ps was b'
-hits_same ps was b b' same =
-    map-by (counted ps was b) (counted ps was b')
-    (λ p. ap (λ one. counted_if one p)
-    (any-by (λ q. q.id == p.id && is_hit_by was b q) (λ q. q.id == p.id && is_hit_by was b' q)
-    (λ q. ap (λ hit. q.id == p.id && hit) (hit-by was b b' q same)) ps)) ps
+hits_same ps was b b' same = hits_alike ps was was b b' refl same
 
 -- what the code counts is what the slice says
 counted_after : (ps new : Points) (k : ℕ) (b left : Board) → SameMachine (after_steps k b) left
@@ -260,16 +270,6 @@ list_after all ps new n k b ending lab marks long is counts represents after =
 
 -- ---- laws
 
-pub none_after : (k : ℕ) (b : Board) → points_after [] k b ≡ []
-none_after k b = by (nat_lt 0 k)
-  where
-    none : Points
-    none = []
-
-    by : (some : Bool) → (if some then none else none) ≡ none
-    by true = refl
-    by false = refl
-
 none-yet : (hits : Option Hits) → none_yet (once_more hits) ≡ none_yet hits
 none-yet None = refl
 none-yet (Some h) = refl
@@ -279,7 +279,7 @@ without_count-counted : (is_one : Bool) (p : ConditionalBreakpoint)
 without_count-counted true p = ap (λ h. record p { hits = h }) (none-yet p.hits)
 without_count-counted false p = refl
 
-without-counted : (all : Points) (was b : Board) (ps : Points)
+pub without-counted : (all : Points) (was b : Board) (ps : Points)
     → without_hits (map (counted all was b) ps) ≡ without_hits ps
 without-counted all was b [] = refl
 without-counted all was b (p ∷ ps) =
@@ -319,6 +319,7 @@ come-to was b (trigger.Address address) = by (address == b.machine.regs.pc)
     by : (here : Bool) → here ≡ (here || false)
     by true = refl
     by false = refl
+come-to was b (trigger.Line line) = refl
 come-to was b (trigger.Change place) =
     sym (some-unless (value_at place was.machine == value_at place b.machine) _)
 

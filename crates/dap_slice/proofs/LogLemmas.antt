@@ -101,7 +101,7 @@ none-counted points b (suc k) none =
     ap (λ ps. after_hits ps was now) before
     ∙ not_counted was now points points (neither at changed quiet) (nor at changed quiet)
 
-counted_by-steps : (points : List ConditionalBreakpoint) (b : Board) (k : ℕ)
+pub counted_by-steps : (points : List ConditionalBreakpoint) (b : Board) (k : ℕ)
     → ((j : ℕ) → 1 ≤ j → j < k → is_at_after points b j ≡ false)
     → points_after points k b ≡ after_each_step points k b
 counted_by-steps points b zero none = refl

@@ -2,6 +2,8 @@
 use Rattle.std.proofs.Common.{◌≡◌, ◌≢◌, ◌∙◌, ◌≤◌, ◌<◌, ◌+◌, ◌-◌, ℕ, zero, suc, List, []}
 use Rattle.std.proofs.Common.{Bool, true, false, ◌&&◌, ◌||◌, if◌then◌else◌, Option, Some, None, is_some}
 use Rattle.std.proofs.Common.{Result, Ok, Err, refl, sym, ap, subst, arith, length, take, drop, ◌++◌}
+use Rattle.std.proofs.Common.{◌∷◌, map, nat_lt, is_none}
+use Rattle.std.specs.List.{list_any}
 use Rattle.std.specs.Result.{IfOk, OnErr}
 use Rattle.std.specs.declared.alloc.AllocError.{AllocError}
 use Rattle.i80_exec.specs.declared.ports.PortOperation.{PortOperation}
@@ -21,19 +23,27 @@ use Rattle.lab_core.specs.SliceEnds.{slice_from, sliced_at, traffic_in as answer
 use Rattle.lab_core.specs.Events.{Gives, while_running}
 use Rattle.lab_core.specs.Labs.{LabState, RepresentsBoard}
 use Rattle.lab_shown.specs.declared.place.PlaceChange.{PlaceChange}
+use Rattle.lab_core.specs.declared.marks.Watch.{Watch}
 use Rattle.lab_core.specs.Marks.{MarksState, SlicesTo, first_after, first_mark, marked_at, Leaves}
 use Rattle.lab_core.proofs.LawLemmas.{applies-given, slice_within}
 use Rattle.lab_core.proofs.MarkLemmas.{first-within, first-before}
 use Rattle.dap_slice.specs.declared.conditions.ConditionalBreakpoint.{ConditionalBreakpoint}
-use Rattle.dap_slice.specs.Conditions.{is_any_met, IsMarked}
-use Rattle.dap_slice.specs.Changes.{first_change, change_at, IsAfterStep}
-use Rattle.dap_slice.specs.Counts.{points_after}
+use Rattle.dap_slice.specs.declared.conditions.Trigger.{Trigger}
+use Rattle.dap_slice.specs.declared.conditions.Trigger.TheVariants as trigger
+use Rattle.dap_slice.specs.Hits.{is_wanted}
+use Rattle.dap_slice.specs.Conditions.{is_any_at, holds_on, stops_on, is_any_met, watched_places}
+use Rattle.dap_slice.specs.Conditions.{is_looked_for, is_any_looked_for, IsMarked}
+use Rattle.dap_slice.specs.Changes.{is_any_changed, first_change, change_at, watch_between, IsAfterStep}
+use Rattle.dap_slice.specs.Counts.{after_hits, points_after}
+use Rattle.dap_slice.specs.Stops.{ids_told}
 use Rattle.dap_slice.specs.SliceEnds.{is_at_after, first_arrival, outcome_at, stopped_if_met, change_after}
-use Rattle.dap_slice.specs.SliceEnds.{slice_end_within, after_end, after_slice_within}
-use Rattle.dap_slice.specs.SliceEnds.{IsSliceEnd, IsSliceWithin, IsStepChange, StopsAtChange}
+use Rattle.dap_slice.specs.SliceEnds.{ids_after, slice_end_within, after_end, after_slice_within}
+use Rattle.dap_slice.specs.SliceEnds.{IsBoardSlice, IsSliceEnd, IsSliceWithin, IsStepChange, StopsAtChange}
+use Rattle.dap_slice.specs.declared.slice.BoardSlice.{BoardSlice}
 use Rattle.dap_slice.specs.declared.slice.SliceResult.{SliceResult}
-use Rattle.dap_slice.proofs.CountLemmas.{none_after, Counts, list_after}
-use Rattle.dap_slice.proofs.ChangeLemmas.{marked_there, marked_still, after_step, first_is, first_of}
+use Rattle.dap_slice.proofs.CountLemmas.{not_counted, Counts, list_after}
+use Rattle.dap_slice.proofs.ChangeLemmas.{Watches, past_line, marked_there, marked_still, after_step}
+use Rattle.dap_slice.proofs.ChangeLemmas.{first_is, first_of}
 
 abbrev pub Points : Type 0
 Points = List ConditionalBreakpoint
@@ -67,8 +77,69 @@ pub arrives : (points : Points) (marks : MarksState) (n : ℕ) (b : Board) → I
 arrives points marks n b is =
     first-same (marked_at marks b) (is_at_after points b) (λ j. marked_there points marks b j is) n 0
 
-pub none_arrives : (n : ℕ) (b : Board) → first_arrival [] n b ≡ n
-none_arrives n b = let all = first-none (is_at_after [] b) (λ j. refl) n 0 in omega (arith, all)
+-- where none is looked for there is no arrival
+pub none_at : (points : Points) (address : ℕ) → is_any_looked_for points ≡ false
+    → is_any_at points address ≡ false
+none_at [] address plain = refl
+none_at (p ∷ ps) address plain = by p.trigger refl plain (none_at ps address)
+  where
+    by : (t : Trigger) → p.trigger ≡ t → (is_looked_for t || is_any_looked_for ps) ≡ false
+        → (is_any_looked_for ps ≡ false → is_any_at ps address ≡ false) → is_any_at (p ∷ ps) address ≡ false
+    by (trigger.Address a) is plain rest = absurd cc
+    by (trigger.Change place) is plain rest = absurd cc
+    by (trigger.Line line) is plain rest = rw is (rest plain)
+
+pub none_changed : (points : Points) (was b : Board) → is_any_looked_for points ≡ false
+    → is_any_changed points was b ≡ false
+none_changed [] was b plain = refl
+none_changed (p ∷ ps) was b plain = by p.trigger refl plain (none_changed ps was b)
+  where
+    by : (t : Trigger) → p.trigger ≡ t → (is_looked_for t || is_any_looked_for ps) ≡ false
+        → (is_any_looked_for ps ≡ false → is_any_changed ps was b ≡ false)
+        → is_any_changed (p ∷ ps) was b ≡ false
+    by (trigger.Address a) is plain rest = absurd cc
+    by (trigger.Change place) is plain rest = absurd cc
+    by (trigger.Line line) is plain rest = rw is (rest plain)
+
+pub none_watched : (points : Points) → is_any_looked_for points ≡ false → watched_places points ≡ []
+none_watched [] plain = refl
+none_watched (p ∷ ps) plain = by p.trigger refl plain (none_watched ps)
+  where
+    by : (t : Trigger) → p.trigger ≡ t → (is_looked_for t || is_any_looked_for ps) ≡ false
+        → (is_any_looked_for ps ≡ false → watched_places ps ≡ []) → watched_places (p ∷ ps) ≡ []
+    by (trigger.Address a) is plain rest = absurd cc
+    by (trigger.Change place) is plain rest = absurd cc
+    by (trigger.Line line) is plain rest = rw is (rest plain)
+
+none-here : (points : Points) (b : Board) (j : ℕ) → is_any_looked_for points ≡ false
+    → is_at_after points b j ≡ false
+none-here points b j plain =
+    rw (
+      none_at points (after_steps j b).machine.regs.pc plain,
+      none_changed points (after_steps (j - 1) b) (after_steps j b) plain,
+    ) refl
+
+pub none_arrives : (points : Points) (n : ℕ) (b : Board) → is_any_looked_for points ≡ false
+    → first_arrival points n b ≡ n
+none_arrives points n b plain =
+    let all = first-none (is_at_after points b) (λ j. none-here points b j plain) n 0 in omega (arith, all)
+
+-- nothing is counted
+pub plain_after : (points : Points) (k : ℕ) (b : Board) → is_any_looked_for points ≡ false
+    → points_after points k b ≡ points
+plain_after points k b plain = by (nat_lt 0 k)
+  where
+    was : Board
+    was = after_steps (k - 1) b
+
+    now : Board
+    now = after_steps k b
+
+    by : (some : Bool) → (if some then after_hits points was now else points) ≡ points
+    by true =
+        not_counted was now points points (none_at points now.machine.regs.pc plain)
+        (none_changed points was now plain)
+    by false = refl
 
 -- ---- a slice up to it
 
@@ -140,10 +211,12 @@ pub whole : (points : Points) (n : ℕ) (b : Board) (s : SliceResult) (ending : 
     (mid new : LabState) → IsArrival points n b s.executed s.traffic ending mid
     → s.outcome ≡ (stopped_if_met points b (s.executed, ending)).1
     → s.change ≡ change_after points (s.executed, s.outcome) b
+    → s.ids ≡ ids_after points (s.executed, s.outcome) b
     → RepresentsBoard new (left_by s.outcome (after_steps s.executed b))
     → IsSliceWithin points n b s × RepresentsBoard new (after_slice_within points n b)
-whole points n b s ending mid new came how told represents =
+whole points n b s ending mid new came how told ids represents =
     let C : SliceOutcome → Type 0 = λ o. s.change ≡ change_after points (s.executed, o) b in
+    let I : SliceOutcome → Type 0 = λ o. s.ids ≡ ids_after points (s.executed, o) b in
     let E : ℕ × SliceOutcome → Type 0 =
     λ end. IsSliceEnd points (stopped_if_met points b end) b s
     × RepresentsBoard new (after_end (stopped_if_met points b end) b) in
@@ -153,14 +226,47 @@ whole points n b s ending mid new came how told represents =
         traffic = came.traffic_is;
         outcome = how;
         change = subst C how told;
+        ids = subst I how ids;
       },
       subst (λ o. RepresentsBoard new (left_by o (after_steps s.executed b))) how represents,
     )
 
 -- ---- laws
 
-not-met : (was b : Board) → outcome_at [] was b ≡ outcome.More
-not-met was b = by b.is_attached
+none-met : (points : Points) (b : Board) → is_any_looked_for points ≡ false
+    → list_any (stops_on b) points ≡ false
+none-met [] b plain = refl
+none-met (p ∷ ps) b plain = by p.trigger refl plain (none-met ps b)
+  where
+    quiet : (x y z more : Bool) → more ≡ false → (x && (y && (false && z)) || more) ≡ false
+    quiet true true z more none = none
+    quiet true false z more none = none
+    quiet false y z more none = none
+
+    by : (t : Trigger) → p.trigger ≡ t → (is_looked_for t || is_any_looked_for ps) ≡ false
+        → (is_any_looked_for ps ≡ false → list_any (stops_on b) ps ≡ false)
+        → list_any (stops_on b) (p ∷ ps) ≡ false
+    by (trigger.Address a) is plain rest = absurd cc
+    by (trigger.Change place) is plain rest = absurd cc
+    by (trigger.Line line) is plain rest =
+        rw is (quiet (is_none p.log) (is_wanted p.hits) (holds_on b p.condition) _ (rest plain))
+
+none-first : (points : Points) (was b : Board) → is_any_looked_for points ≡ false
+    → first_change points was b ≡ None
+none-first [] was b plain = refl
+none-first (p ∷ ps) was b plain = by p.trigger refl plain (none-first ps was b)
+  where
+    by : (t : Trigger) → p.trigger ≡ t → (is_looked_for t || is_any_looked_for ps) ≡ false
+        → (is_any_looked_for ps ≡ false → first_change ps was b ≡ None)
+        → first_change (p ∷ ps) was b ≡ None
+    by (trigger.Address a) is plain rest = absurd cc
+    by (trigger.Change place) is plain rest = absurd cc
+    by (trigger.Line line) is plain rest = (past_line p ps line was b is).0 ∙ rest plain
+
+not-met : (points : Points) (was b : Board) → is_any_looked_for points ≡ false
+    → outcome_at points was b ≡ outcome.More
+not-met points was b plain =
+    rw (none-met points b plain, none-first points was b plain) (by b.is_attached)
   where
     no_change : Option PlaceChange
     no_change = None
@@ -170,23 +276,28 @@ not-met was b = by b.is_attached
     by true = refl
     by false = refl
 
-plain : (b : Board) (end : ℕ × SliceOutcome) → stopped_if_met [] b end ≡ end
-plain b (k, outcome.More) =
-    rw (none_after k b) (ap (λ e. (k, e)) (not-met (after_steps (k - 1) b) (after_steps k b)))
-plain b (k, outcome.Waiting) = refl
-plain b (k, outcome.Stop s) = refl
-plain b (k, outcome.End e) = refl
+plain : (points : Points) (b : Board) (end : ℕ × SliceOutcome) → is_any_looked_for points ≡ false
+    → stopped_if_met points b end ≡ end
+plain points b (k, outcome.More) none =
+    rw (plain_after points k b none)
+    (ap (λ e. (k, e)) (not-met points (after_steps (k - 1) b) (after_steps k b) none))
+plain points b (k, outcome.Waiting) none = refl
+plain points b (k, outcome.Stop s) none = refl
+plain points b (k, outcome.End e) none = refl
 
--- without breakpoints no change is told
-pub untold : (end : ℕ × SliceOutcome) (b : Board) → change_after [] end b ≡ None
-untold (k, outcome.More) b = refl
-untold (k, outcome.Waiting) b = refl
-untold (k, outcome.Stop s) b =
-    ap (λ ps. first_change ps (after_steps (k - 1) b) (after_steps k b)) (none_after k b)
-untold (k, outcome.End e) b = refl
+-- where none is looked for no change is told
+pub untold : (points : Points) (end : ℕ × SliceOutcome) (b : Board) → is_any_looked_for points ≡ false
+    → change_after points end b ≡ None
+untold points (k, outcome.More) b none = refl
+untold points (k, outcome.Waiting) b none = refl
+untold points (k, outcome.Stop s) b none =
+    rw (plain_after points k b none) (none-first points (after_steps (k - 1) b) (after_steps k b) none)
+untold points (k, outcome.End e) b none = refl
 
-pub none_plain : (n : ℕ) (b : Board) → slice_end_within [] n b ≡ slice_from n 0 b
-none_plain n b = plain b _ ∙ ap (λ m. slice_from m 0 b) (none_arrives n b)
+pub none_plain : (points : Points) (n : ℕ) (b : Board) → is_any_looked_for points ≡ false
+    → slice_end_within points n b ≡ slice_from n 0 b
+none_plain points n b none =
+    plain points b _ none ∙ ap (λ m. slice_from m 0 b) (none_arrives points n b none)
 
 pub within_arrival : (points : Points) (n : ℕ) (b : Board)
     → (slice_end_within points n b).0 ≤ first_arrival points n b
@@ -268,7 +379,7 @@ change_told points k b c is = (
 -- ---- the board's own slice
 
 -- its port operations are those of the answer
-pub few_made : (reply : Answered) (result : Result SliceResult AllocError) (n : ℕ) → n ≤ 4096
+pub few_made : (reply : Answered) (result : Result BoardSlice AllocError) (n : ℕ) → n ≤ 4096
     → IfOk reply (λ a. length (answer_traffic a) ≤ n)
     → IfOk result (λ s. reply ≡ sliced s.executed s.traffic s.outcome)
     → IfOk result (λ s. length s.traffic ≤ 4096)
@@ -278,32 +389,57 @@ few_made reply (Ok s) n most few is =
     let within : length s.traffic ≤ n = subst F is few in
     omega (arith, within, most)
 
--- a slice that was made ended there, and so did the board
-abbrev Made : Points → ℕ × SliceOutcome → Board → Result SliceResult AllocError → LabState → Type 0
-Made points end b result new =
-    IfOk result (λ s. IsSliceEnd points end b s × RepresentsBoard new (after_end end b))
+-- what the code tells of its end
+abbrev pub TellsIds : Points → List Watch → SliceOutcome → LabState → List ℕ → Type 0
+TellsIds points watches ending lab ids =
+    (was b : Board) → RepresentsBoard lab (left_by ending b) → watches ≡ Watches points was b
+    → ids ≡ ids_told points was b ending
 
--- it is the slice without breakpoints
-pub plain_end : (points : Points) (n : ℕ) (b : Board) (result : Result SliceResult AllocError)
-    (new : LabState) → points ≡ [] → Made [] (slice_from n 0 b) b result new
-    → Made points (slice_end_within points n b) b result new
-plain_end points n b result new none made =
-    let E : ℕ × SliceOutcome → Type 0 = λ end. Made [] end b result new in
-    let P : Points → Type 0 = λ ps. Made ps (slice_end_within ps n b) b result new in
-    subst P (sym none) (subst E (sym (none_plain n b)) made)
+-- where none is looked for it is the board's own slice
+pub plain_end : (points : Points) (n : ℕ) (b : Board) (s : BoardSlice) (ids : List ℕ) (new : LabState)
+    → is_any_looked_for points ≡ false
+    → IsBoardSlice (slice_from n 0 b) b s × RepresentsBoard new (after_end (slice_from n 0 b) b)
+    → TellsIds points [] s.outcome new ids
+    → IsSliceWithin points n b (record {
+      executed = s.executed;
+      traffic = s.traffic;
+      outcome = s.outcome;
+      change = None;
+      ids = ids;
+    }) × RepresentsBoard new (after_slice_within points n b)
+plain_end points n b s ids new none made tells =
+    let E : ℕ × SliceOutcome → Type 0 =
+    λ end. IsBoardSlice end b s × RepresentsBoard new (after_end end b) in
+    let same = none_plain points n b none in
+    let there = subst E (sym same) made in
+    let end = slice_end_within points n b in
+    let was = after_steps (end.0 - 1) b in
+    let now = after_steps end.0 b in
+    let R : SliceOutcome → Type 0 = λ o. RepresentsBoard new (left_by o now) in
+    let told = tells was now (subst R (sym there.0.outcome) there.1)
+    (sym (ap (map (watch_between was now)) (none_watched points none))) in (
+      record {
+        executed = there.0.executed;
+        traffic = there.0.traffic;
+        outcome = there.0.outcome;
+        change = sym (untold points end b none);
+        ids = told ∙ (ap (λ o. ids_told points was now o) there.0.outcome
+            ∙ sym (ap (λ ps. ids_told ps was now end.1) (plain_after points end.0 b none)));
+      },
+      there.1,
+    )
 
 -- and counts nothing
-pub plain_counted : (points points' : Points) (n : ℕ) (b : Board) (result : Result SliceResult AllocError)
-    (new : LabState) → points ≡ [] → points' ≡ [] → Made [] (slice_from n 0 b) b result new
-    → IfOk result (λ s. points' ≡ points_after points s.executed b)
-plain_counted points points' n b (Err e) new none none' made = made
-plain_counted points points' n b (Ok s) new none none' made =
-    none' ∙ sym (ap (λ ps. points_after ps s.executed b) none ∙ none_after s.executed b)
+pub plain_counted : (points : Points) (b : Board) (result : Result SliceResult AllocError)
+    (P : SliceResult → Type 0) → is_any_looked_for points ≡ false → IfOk result P
+    → IfOk result (λ s. points ≡ points_after points s.executed b)
+plain_counted points b (Err e) P none made = made
+plain_counted points b (Ok s) P none made = sym (plain_after points s.executed b none)
 
 -- ---- marks
 
 pub still_marked : (points : Points) (marks marks' : MarksState) (n : ℕ) (old : LabState)
-    (reply : Answered) (s : SliceResult) → IsMarked points marks → Leaves n old reply marks marks'
+    (reply : Answered) (s : BoardSlice) → IsMarked points marks → Leaves n old reply marks marks'
     → reply ≡ sliced s.executed s.traffic s.outcome → (b : Board) → RepresentsBoard old b
     → IsMarked points marks'
 still_marked points marks marks' n old reply s marked leaves is b represents =
@@ -334,7 +470,7 @@ runs marks n old mid a slices b represents =
     by Stopped b' end gives = absurd (not_refused a NotRunning gives.0)
 
 -- a slice was made, and its hits are counted in a vector of n breakpoints
-pub record IsCountedSlice (points : Points) (new : Points) (n : ℕ) (most : ℕ) (b : Board) (s : SliceResult)
+pub record IsCountedSlice (points : Points) (new : Points) (n : ℕ) (most : ℕ) (b : Board) (s : BoardSlice)
     (mid : LabState) (marks : MarksState)
     : Type 0 where
   pub came : IsArrival points most b s.executed s.traffic s.outcome mid
@@ -342,7 +478,7 @@ pub record IsCountedSlice (points : Points) (new : Points) (n : ℕ) (most : ℕ
   pub counted : take n (new ++ drop (length new) points) ≡ points_after points s.executed b
 
 pub slice_counts : (points ps new : Points) (n most : ℕ) (marks marks' : MarksState) (old mid : LabState)
-    (reply : Answered) (s : SliceResult) → IsMarked points marks → SlicesTo marks most old reply mid
+    (reply : Answered) (s : BoardSlice) → IsMarked points marks → SlicesTo marks most old reply mid
     → Leaves most old reply marks marks' → reply ≡ sliced s.executed s.traffic s.outcome → n ≡ length points
     → ps ≡ points → Counts ps new s.executed mid marks' → (b : Board) → RepresentsBoard old b
     → IsCountedSlice points new n most b s mid marks'

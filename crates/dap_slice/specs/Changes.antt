@@ -32,6 +32,7 @@ change_of was b place = change_in (watch_between was b place) was.machine.regs.p
 abbrev pub change_by : Board → Board → Trigger → Option PlaceChange
 change_by was b (trigger.Address address) = None
 change_by was b (trigger.Change place) = change_of was b place
+change_by was b (trigger.Line line) = None
 
 -- the change at which a breakpoint acts, whose condition is asked after the step
 abbrev pub change_on : Board → Board → ConditionalBreakpoint → Option PlaceChange

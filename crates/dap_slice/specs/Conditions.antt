@@ -19,6 +19,7 @@ use Rattle.dap_slice.specs.Hits.{is_wanted}
 abbrev pub is_reached : ℕ → Trigger → Bool
 is_reached address (trigger.Address a) = a == address
 is_reached address (trigger.Change place) = false
+is_reached address (trigger.Line line) = false
 
 abbrev pub is_there : ℕ → ConditionalBreakpoint → Bool
 is_there address p = is_reached address p.trigger
@@ -61,10 +62,20 @@ is_any_met points b = b.is_attached && list_any (stops_on b) points
 abbrev pub watched_by : Trigger → Option Place
 watched_by (trigger.Address address) = None
 watched_by (trigger.Change place) = Some place
+watched_by (trigger.Line line) = None
 
 -- the places that these breakpoints watch, in their order
 abbrev pub watched_places : List ConditionalBreakpoint → List Place
 watched_places points = filter_map (λ p. watched_by p.trigger) points
+
+-- A slice looks for it. At lines the board itself stops.
+abbrev pub is_looked_for : Trigger → Bool
+is_looked_for (trigger.Address address) = true
+is_looked_for (trigger.Change place) = true
+is_looked_for (trigger.Line line) = false
+
+abbrev pub is_any_looked_for : List ConditionalBreakpoint → Bool
+is_any_looked_for points = list_any (λ p. is_looked_for p.trigger) points
 
 -- the marks are at these breakpoints' addresses, and the watches are of their places
 pub record IsMarked (points : List ConditionalBreakpoint) (marks : MarksState) : Type 0 where

@@ -15,10 +15,12 @@ use Rattle.lab_core.specs.declared.run_state.RunState.TheVariants.{Running}
 use Rattle.lab_core.specs.Labs.{LabState, RepresentsBoard}
 use Rattle.lab_core.specs.Marks.{first_after, value_at}
 use Rattle.dap_slice.specs.declared.conditions.ConditionalBreakpoint.{ConditionalBreakpoint}
+use Rattle.dap_slice.specs.declared.slice.BoardSlice.{BoardSlice}
 use Rattle.dap_slice.specs.declared.slice.SliceResult.{SliceResult}
 use Rattle.dap_slice.specs.Conditions.{is_any_at, is_any_met}
 use Rattle.dap_slice.specs.Changes.{is_any_changed, first_change, change_at}
 use Rattle.dap_slice.specs.Counts.{points_after}
+use Rattle.dap_slice.specs.Stops.{ids_told}
 
 -- whether the board after so many steps is at one of these breakpoints, or the last step changed a watched
 -- place
@@ -61,6 +63,11 @@ abbrev pub change_after : List ConditionalBreakpoint → ℕ × SliceOutcome →
 change_after points (k, ending) b =
     change_told (points_after points k b) (after_steps (k - 1) b) (after_steps k b) ending
 
+-- and of these breakpoints, by their numbers
+abbrev pub ids_after : List ConditionalBreakpoint → ℕ × SliceOutcome → Board → List ℕ
+ids_after points (k, ending) b =
+    ids_told (points_after points k b) (after_steps (k - 1) b) (after_steps k b) ending
+
 -- the board after a slice that ends there
 abbrev pub after_end : ℕ × SliceOutcome → Board → Board
 after_end end b = left_by end.1 (after_steps end.0 b)
@@ -68,7 +75,13 @@ after_end end b = left_by end.1 (after_steps end.0 b)
 abbrev pub after_slice_within : List ConditionalBreakpoint → ℕ → Board → Board
 after_slice_within points n b = after_end (slice_end_within points n b) b
 
--- it made so many steps, with these port operations, ended so, and tells this change
+-- the board made so many steps, with these port operations, and ended so
+pub record IsBoardSlice (end : ℕ × SliceOutcome) (b : Board) (s : BoardSlice) : Type 0 where
+  pub executed : s.executed ≡ end.0
+  pub traffic : s.traffic ≡ traffic_of end.0 b
+  pub outcome : s.outcome ≡ end.1
+
+-- it made so many steps, with these port operations, ended so, and tells this change and these breakpoints
 pub record IsSliceEnd (points : List ConditionalBreakpoint) (end : ℕ × SliceOutcome) (b : Board)
     (s : SliceResult)
     : Type 0 where
@@ -76,6 +89,7 @@ pub record IsSliceEnd (points : List ConditionalBreakpoint) (end : ℕ × SliceO
   pub traffic : s.traffic ≡ traffic_of end.0 b
   pub outcome : s.outcome ≡ end.1
   pub change : s.change ≡ change_after points end b
+  pub ids : s.ids ≡ ids_after points end b
 
 abbrev pub IsSliceWithin : List ConditionalBreakpoint → ℕ → Board → SliceResult → Type 0
 IsSliceWithin points n b s = IsSliceEnd points (slice_end_within points n b) b s

@@ -6,7 +6,7 @@ ghost use Rattle.lab_core.specs.Board.{Board};
 ghost use Rattle.lab_core.specs.Labs.{RepresentsBoard};
 ghost use Rattle.dap_slice.specs.declared.conditions.ConditionalBreakpoint.{ConditionalBreakpoint};
 ghost use Rattle.dap_slice.specs.Conditions.{is_reached, is_true, holds_on, is_met_on, acts_on, stops_on};
-ghost use Rattle.dap_slice.specs.Conditions.{stops_back, IsMarked};
+ghost use Rattle.dap_slice.specs.Conditions.{stops_back, is_looked_for, is_any_looked_for, IsMarked};
 
 use crate::hits::{Hits, is_wanted};
 use asm_expr::evaluation::ExprFault;
@@ -34,10 +34,13 @@ pub enum Trigger {
     Address(u16),
     /// Where an instruction has just changed this place.
     Change(Place),
+    /// Where the board itself stops the run: before a statement on this line.
+    Line(u32),
 }
 
 /// A breakpoint that is met only where its condition is true, if it has one. It stops the run there, or, if
-/// it is at an address, tells its log message; with a hit condition only at the hits that this names.
+/// it is at an address, tells its log message; with a hit condition only at the hits that this names. One of
+/// the board's own, on a line, has neither.
 #[derive(Drop)]
 pub struct ConditionalBreakpoint {
     /// Its number. Those for the places of one data breakpoint have the same.
@@ -96,8 +99,29 @@ fn is_reached(address: u16, trigger: Trigger) -> bool
 {
     match trigger {
         Trigger::Address(there) => there == address,
-        Trigger::Change(_) => false,
+        Trigger::Change(_) | Trigger::Line(_) => false,
     }
+}
+
+fn is_looked_for(trigger: Trigger) -> bool
+    ensures { result ≡ is_looked_for trigger }
+{
+    match trigger {
+        Trigger::Address(_) | Trigger::Change(_) => true,
+        Trigger::Line(_) => false,
+    }
+}
+
+/// Whether a slice looks for one of these: at lines the board itself stops.
+pub(crate) fn is_any_looked_for(points: &[ConditionalBreakpoint]) -> bool
+    ensures { result ≡ is_any_looked_for points.now }
+{
+    for point in points {
+        if is_looked_for(point.trigger) {
+            return true;
+        }
+    }
+    false
 }
 
 // Whether a breakpoint is at PC and its condition is true.
@@ -120,8 +144,8 @@ fn stops(lab: &Lab, point: &ConditionalBreakpoint) -> bool
     point.log.is_none() && acts(lab, point)
 }
 
-// Whether a breakpoint stops a run that goes back.
-fn stops_back(lab: &Lab, point: &ConditionalBreakpoint) -> bool
+/// Whether a breakpoint stops a run that goes back.
+pub(crate) fn stops_back(lab: &Lab, point: &ConditionalBreakpoint) -> bool
     ensures { (b : Board) → RepresentsBoard lab.now b → result ≡ stops_back b point.now }
 {
     point.hits.is_none() && stops(lab, point)
@@ -151,6 +175,7 @@ fn mark(marks: &mut Marks, trigger: Trigger) -> Result<(), AllocError>
             Ok(())
         }
         Trigger::Change(place) => marks.watch(place),
+        Trigger::Line(_) => Ok(()),
     }
 }
 
@@ -171,6 +196,17 @@ impl ConditionalBreakpoints {
         ensures { result.now ≡ self.now }
     {
         &self.points
+    }
+
+    /// New marks where these breakpoints may be met, for slices that are made apart from theirs.
+    pub fn new_marks(&self, alloc: Global) -> Result<Marks, AllocError>
+        ensures { IfOk result (IsMarked self.now) }
+    {
+        let mut marks = Marks::new(alloc)?;
+        for point in &self.points {
+            mark(&mut marks, point.trigger)?;
+        }
+        Ok(marks)
     }
 
     /// Whether one of those at addresses stops a run that goes back to where the board is.

@@ -1,15 +1,17 @@
 //! Counts of hits.
-ghost use Rattle.std.specs.Prelude.{◌≡◌, ◌&&◌, ◌<◌, ◌==◌, length, nat_lt, if◌then◌else◌};
-ghost use Rattle.std.specs.Prelude.{slice_index_or, slice_set};
+ghost use Rattle.std.specs.Prelude.{◌≡◌, ◌&&◌, ◌<◌, ◌≤◌, ◌==◌, length, nat_lt, if◌then◌else◌};
+ghost use Rattle.std.specs.Prelude.{slice_index_or, slice_set, is_some};
+ghost use Rattle.std.specs.List.{list_any};
 ghost use Rattle.lab_core.specs.Board.{Board};
 ghost use Rattle.lab_core.specs.Labs.{RepresentsBoard};
 ghost use Rattle.dap_slice.specs.declared.conditions.ConditionalBreakpoint.{ConditionalBreakpoint};
 ghost use Rattle.dap_slice.specs.Conditions.{holds_on};
 ghost use Rattle.dap_slice.specs.Changes.{IsAfterStep};
 ghost use Rattle.dap_slice.specs.Counts.{is_hit, counted_if, after_hits, without_hits};
+ghost use Rattle.dap_slice.specs.Counts.{hits_of, with_count, hits_on, with_counts};
 
 use crate::conditions::{ConditionalBreakpoint, ConditionalBreakpoints, Trigger, holds};
-use crate::hits::{none_yet, once_more};
+use crate::hits::{Hits, none_yet, once_more};
 use lab_core::lab::Lab;
 use lab_core::marks::Marks;
 
@@ -21,8 +23,8 @@ fn is_of(lab: &Lab, point: &ConditionalBreakpoint, id: u32) -> bool
     point.id == id && holds(lab, &point.condition)
 }
 
-// Whether the last step is a hit of the breakpoint with this number.
-fn is_hit(lab: &Lab, points: &[ConditionalBreakpoint], marks: &Marks, id: u32) -> bool
+/// Whether the last step is a hit of the breakpoint with this number.
+pub(crate) fn is_hit(lab: &Lab, points: &[ConditionalBreakpoint], marks: &Marks, id: u32) -> bool
     ensures { (was b : Board) → RepresentsBoard lab.now b → IsAfterStep points.now was b marks.now
         → result ≡ is_hit points.now id was b }
 {
@@ -40,6 +42,7 @@ fn is_hit(lab: &Lab, points: &[ConditionalBreakpoint], marks: &Marks, id: u32) -
                 watches = rest;
                 watch.before != watch.after
             }
+            Trigger::Line(_) => false,
         };
         if is_come_to && is_of(lab, point, id) {
             return true;
@@ -89,7 +92,74 @@ pub(crate) fn count_hits(
     }
 }
 
+// What the breakpoint with this number has counted, if it counts hits.
+fn hits_of(id: u32, points: &[ConditionalBreakpoint]) -> Option<Hits>
+    ensures { result ≡ hits_of id points.now }
+{
+    let mut left = points;
+    while let Some((point, later)) = left.split_first() {
+        if point.id == id {
+            return point.hits;
+        }
+        left = later;
+    }
+    None
+}
+
+fn with_count(was: Option<Hits>, hits: Option<Hits>) -> Option<Hits>
+    ensures { result ≡ with_count was hits }
+{
+    match (was, hits) {
+        (Some(was), Some(hits)) => Some(Hits {
+            condition: hits.condition,
+            count: was.count,
+        }),
+        _ => hits,
+    }
+}
+
+// The hits of a breakpoint that counts on as the old one with its number, unless it is of the list with this
+// number.
+fn hits_on(
+    number: u32,
+    old: &[ConditionalBreakpoint],
+    point: &ConditionalBreakpoint,
+) -> Option<Hits>
+    requires { number ≤ 1026 }
+    ensures { result ≡ hits_on number old.now point.now }
+{
+    let before = 256 * number;
+    if before < point.id && point.id <= before + 256 {
+        point.hits
+    } else {
+        with_count(hits_of(point.id, old), point.hits)
+    }
+}
+
 impl ConditionalBreakpoints {
+    /// Whether one of them counts its hits.
+    pub fn counts_hits(&self) -> bool
+        ensures { result ≡ list_any (λ p. is_some p.hits) self.now }
+    {
+        for point in &self.points {
+            if point.hits.is_some() {
+                return true;
+            }
+        }
+        false
+    }
+
+    /// Counts on from the old breakpoints with the same numbers, but for those of the list with this number,
+    /// which were set.
+    pub fn keep_counts(&mut self, number: u32, old: &ConditionalBreakpoints)
+        requires { number ≤ 1026 }
+        ensures { self.new ≡ with_counts number old.now self.old }
+    {
+        for point in self.points.iter_mut() {
+            point.hits = hits_on(number, old.points(), point);
+        }
+    }
+
     /// Counts the hits from now on, as if there were none before.
     pub fn forget_hits(&mut self)
         ensures { self.new ≡ without_hits self.old }

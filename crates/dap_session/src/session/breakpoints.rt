@@ -1,47 +1,27 @@
 //! Breakpoints.
-ghost use Rattle.std.specs.Prelude.{◌≡◌, ◌≤◌, length, true, IfOk, OnErr, option_map, unwrap_or};
-ghost use Rattle.dap_session.specs.Breakpoints.{program_at, lines_wanted, labels_wanted, lines_set};
+ghost use Rattle.std.specs.Prelude.{◌≡◌, ◌≤◌, length, true, IfOk, OnErr, option_map};
+ghost use Rattle.dap_session.specs.Breakpoints.{lines_list, labels_list, kept_or, lines_set};
 ghost use Rattle.dap_session.specs.Breakpoints.{setting_lines, setting_functions, locating};
 ghost use Rattle.dap_session.specs.States.{SessionState, with_points, with_conditional};
 ghost use Rattle.dap_points.specs.Points.{number_of, has_place, with_lines};
 ghost use Rattle.dap_launch.specs.Points.{points_where, labels_where};
+ghost use Rattle.dap_launch.specs.Programs.{program_at};
 ghost use Rattle.dap_session.specs.Represents.{RepresentsSession, RepliesAs, ArmsWanted};
 
 use crate::session::Session;
 use base_text::sequence::Sequence;
 use base_text::text::Text;
 use dap_editor::request::{FunctionBreakpoint, LineBreakpoint};
-use dap_launch::points::{copy_functions, copy_lines, labels_where, points_where};
-use dap_launch::program::{Program, ProgramBreakpoints, arm_with, wanted_of};
+use dap_launch::points::{copy_functions, copy_source, labels_where, points_where};
+use dap_launch::program::{ProgramBreakpoints, arm_with, program_at, wanted_of};
 use dap_launch::reply::{Reply, succeed};
 use dap_lines::code_lines::locations;
 use dap_messages::message::{EditorBody, PlacedBreakpoint};
+use dap_points::placed::LABEL_NUMBER;
 use dap_points::points::SourceLines;
 use dap_program::messages::FollowUp;
 use dap_slice::conditions::ConditionalBreakpoints;
 use std::alloc::{AllocError, Global};
-
-// The program, if it is the file with this path.
-pub(super) fn program_at<'a>(path: &str, program: &'a Option<Program>) -> Option<&'a Program>
-    ensures { option_map (λ p. p.now) result ≡ program_at path.now program.now }
-{
-    match program {
-        Some(program) if program.launch.canonical.as_str() == path => Some(program),
-        _ => None,
-    }
-}
-
-fn copy_source(
-    alloc: Global,
-    path: &Text,
-    lines: &Sequence<LineBreakpoint>,
-) -> Result<SourceLines, AllocError>
-    ensures { IfOk result (λ copy. copy ≡ record { path = path.now; lines = lines.now }) }
-{
-    let path = path.clone()?;
-    let lines = copy_lines(alloc, lines.as_slice())?;
-    Ok(SourceLines { path, lines })
-}
 
 impl Session {
     // Sets the breakpoints of a source.
@@ -56,7 +36,7 @@ impl Session {
         if !self.settings.points.has_place(path.as_str()) {
             return self.refuse_with(alloc, "too many sources have breakpoints");
         }
-        let source = copy_source(alloc, path, lines)?;
+        let source = copy_source(alloc, path, lines.as_slice())?;
         self.place_lines(alloc, source)
     }
 
@@ -64,11 +44,21 @@ impl Session {
         requires { has_place source.path self.old.settings.points.lists ≡ true }
         ensures { RepliesAs (lines_set source) self.old result self.new }
     {
+        let number = self.list_number(&source.path);
         let points = self.line_points(alloc, &source)?;
         let conditional = self.arm_lines(alloc, &source)?;
         self.keep_lines(source);
-        self.keep_conditional(conditional);
+        self.keep_conditional(number, conditional);
         Ok(succeed(EditorBody::Breakpoints(points), FollowUp::Nothing))
+    }
+
+    // The number of a source's list.
+    fn list_number(&self, path: &Text) -> u32
+        ensures number { (s : SessionState) → RepresentsSession self.now s
+            → result ≡ number_of path.now s.settings.points.lists }
+        ensures few { result ≤ 1025 }
+    {
+        self.settings.points.number_of(path.as_str())
     }
 
     fn line_points(
@@ -80,18 +70,18 @@ impl Session {
             ≡ points_where s.settings.program s.board
             (number_of source.now.path s.settings.points.lists) source.now) }
     {
-        let number = self.settings.points.number_of(source.path.as_str());
+        let number = self.list_number(&source.path);
         points_where(alloc, &self.settings.program, &self.lab, number, source)
     }
 
-    // Makes the board stop at these lines, if the program is this source, and returns those breakpoints that
-    // have options, and those that aren't on lines.
+    // Makes the board stop at these lines, if the program is this source, and returns the breakpoints at
+    // which its run stops then.
     fn arm_lines(
         &mut self,
         alloc: Global,
         source: &SourceLines,
     ) -> Result<Option<ConditionalBreakpoints>, AllocError>
-        ensures ok { ArmsWanted (program_at source.now.path) (lines_wanted source.now)
+        ensures ok { ArmsWanted (lines_list source.now) (program_at source.now.path)
             self.old result self.new }
         ensures rest { self.new ≡ record self.old { lab = self.new.lab } }
         ensures err { OnErr result (self.new ≡ self.old) }
@@ -109,12 +99,16 @@ impl Session {
         }
     }
 
-    // Takes these breakpoints in place of those with options, if there are some.
-    pub(super) fn keep_conditional(&mut self, points: Option<ConditionalBreakpoints>)
-        ensures { (s : SessionState) → RepresentsSession self.old s → RepresentsSession self.new
-            (with_conditional (unwrap_or points s.settings.conditional) s) }
+    // Takes these breakpoints in place of those before, if there are some. Those of the list with this number
+    // begin to count hits, and the others count on.
+    pub(super) fn keep_conditional(&mut self, number: u32, points: Option<ConditionalBreakpoints>)
+        requires { number ≤ 1026 }
+        ensures { (s : SessionState) → RepresentsSession self.old s
+            → RepresentsSession self.new
+            (with_conditional (kept_or number points s.settings.conditional) s) }
     {
-        if let Some(points) = points {
+        if let Some(mut points) = points {
+            points.keep_counts(number, &self.settings.conditional);
             self.settings.conditional = points;
         }
     }
@@ -142,7 +136,7 @@ impl Session {
         let points = self.label_points(alloc, labels)?;
         let conditional = self.arm_labels(alloc, labels)?;
         self.keep_functions(kept);
-        self.keep_conditional(conditional);
+        self.keep_conditional(LABEL_NUMBER, conditional);
         Ok(succeed(EditorBody::Breakpoints(points), FollowUp::Nothing))
     }
 
@@ -160,28 +154,19 @@ impl Session {
     ) -> Result<Sequence<PlacedBreakpoint>, AllocError>
         requires { length functions.now ≤ 256 }
         ensures { (s : SessionState) → RepresentsSession self.now s → IfOk result (λ points. points
-            ≡ labels_where s.settings.program s.settings.points functions.now s.board) }
+            ≡ labels_where s.settings.program functions.now s.board) }
     {
-        let settings = &self.settings;
-        labels_where(
-            alloc,
-            &settings.program,
-            &settings.points,
-            functions,
-            &self.lab,
-        )
+        labels_where(alloc, &self.settings.program, functions, &self.lab)
     }
 
-    // Makes the program's board stop at these labels, and returns those breakpoints that have options, and
-    // those that aren't on lines.
+    // Makes the program's board stop at these labels, and returns the breakpoints at which its run stops.
     fn arm_labels(
         &mut self,
         alloc: Global,
         functions: &[FunctionBreakpoint],
     ) -> Result<Option<ConditionalBreakpoints>, AllocError>
         requires { length functions.now ≤ 256 }
-        ensures ok { ArmsWanted (λ program. program) (labels_wanted functions.now)
-            self.old result self.new }
+        ensures ok { ArmsWanted (labels_list functions.now) (λ program. program) self.old result self.new }
         ensures rest { self.new ≡ record self.old { lab = self.new.lab } }
         ensures err { OnErr result (self.new ≡ self.old) }
     {

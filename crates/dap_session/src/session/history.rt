@@ -5,23 +5,26 @@ ghost use Rattle.lab_core.specs.Board.{Board};
 ghost use Rattle.dap_history.specs.declared.input.Recorded.{Recorded};
 ghost use Rattle.dap_history.specs.Histories.{HistoryState, IsHistoryOf, KeepsHistory};
 ghost use Rattle.dap_history.specs.Runs.{board_at, after_input};
-ghost use Rattle.dap_history.specs.Searches.{is_goal};
+ghost use Rattle.dap_search.specs.Searches.{counts_hits};
+ghost use Rattle.dap_slice.specs.Stops.{back_ids};
+ghost use Rattle.dap_search.specs.Goals.{is_goal};
 ghost use Rattle.dap_session.specs.States.{SessionState, with_board};
 ghost use Rattle.dap_session.specs.Represents.{RepresentsSession, RepresentsSome};
 ghost use Rattle.dap_session.specs.Laws.{SameParts, has_begun};
 ghost use Rattle.dap_session.specs.Rewinds as rewinds;
-ghost use Rattle.dap_session.specs.Rewinds.{rewound, recounting, IsRunAt, BeginsSearch, SearchedFurther};
+ghost use Rattle.dap_session.specs.Rewinds.{rewound, IsRunAt, BeginsSearch, SearchedFurther};
 ghost use Rattle.dap_session.specs.Rewinds.{IsSearched, ForEachRun, ForEachSearch, KeepsHistories};
 
 use crate::session::Session;
-use dap_history::goal::Goal;
+use base_text::sequence::Sequence;
 use dap_history::history::History;
 use dap_history::input::Input;
 use dap_history::replay::redo;
-use dap_history::scan::is_at_breakpoint;
-use dap_history::search::Search;
 use dap_launch::life::release_program;
 use dap_launch::program::{Phase, Program};
+use dap_search::goal::Goal;
+use dap_search::scan::is_at_breakpoint;
+use dap_search::search::Search;
 use i80_exec::registers::Registers;
 use lab_core::run_state::RunState;
 use std::alloc::{AllocError, Global};
@@ -76,12 +79,28 @@ impl Session {
         self.lab.frames().len()
     }
 
+    /// Whether a breakpoint counts its hits.
+    pub fn counts_hits(&self) -> bool
+        ensures { (s : SessionState) → RepresentsSession self.now s
+            → result ≡ counts_hits s.settings.conditional }
+    {
+        self.settings.conditional.counts_hits()
+    }
+
     /// Whether a breakpoint stops a run that comes to where this one is.
     pub fn is_at_breakpoint(&self) -> bool
         ensures { (s : SessionState) → RepresentsSession self.now s
             → result ≡ is_goal s.settings.conditional Goal.Breakpoint s.board }
     {
         is_at_breakpoint(&self.lab, &self.settings.conditional)
+    }
+
+    /// The numbers of the breakpoints that stop a run that goes back to where this one is.
+    pub fn back_ids(&self, alloc: Global) -> Result<Sequence<u32>, AllocError>
+        ensures { (s : SessionState) → RepresentsSession self.now s
+            → IfOk result (λ ids. ids ≡ back_ids s.settings.conditional s.board) }
+    {
+        self.settings.conditional.back_ids(alloc, &self.lab)
     }
 
     /// The history of a run that begins now.
@@ -102,8 +121,8 @@ impl Session {
         drop(saved);
     }
 
-    /// Puts the run back, or on, to where it had made `count` steps, stops it there, and counts the hits of
-    /// breakpoints from there on. If memory runs out the run may be at any of its moments.
+    /// Puts the run back, or on, to where it had made `count` steps, stops it there, and sets the
+    /// breakpoints' counts of hits to 0. If memory runs out the run may be at any of its moments.
     pub fn rewind(&mut self, history: &mut History, count: u64) -> Result<(), AllocError>
         requires { (start : Board) × IsHistoryOf start history.old }
         ensures ok { ForEachRun history.old self.old (λ start s. OnOk result
@@ -112,20 +131,12 @@ impl Session {
     {
         match history.go_to(&mut self.lab, count) {
             Ok(()) => {
-                self.begin_anew();
+                self.settings.conditional.forget_hits();
+                self.release();
                 Ok(())
             }
             Err(_) => Err(AllocError),
         }
-    }
-
-    // Counts hits from where the run was put, and lets the program go on there.
-    fn begin_anew(&mut self)
-        ensures { self.new
-            ≡ record self.old { settings = rewinds.after_release (recounting self.old.settings) } }
-    {
-        self.settings.conditional.forget_hits();
-        self.release();
     }
 
     // Lets the program go on from where its run is held.
@@ -159,8 +170,8 @@ impl Session {
         Ok(search)
     }
 
-    /// Goes on with a search for about a millisecond. Returns the count that was found, if it was. If memory
-    /// runs out the run may be at any of its moments.
+    /// Goes on with a search for about a millisecond. Returns the count that was found, if it was: then the
+    /// hits of the steps behind it are taken away. If memory runs out the run may be at any of its moments.
     pub fn search_on(
         &mut self,
         search: &mut Search,
@@ -171,9 +182,9 @@ impl Session {
             KeepsHistory start history.old history.new
             × SearchedFurther goal start history.old.log n s found search.new self.new)) }
     {
-        match search.go_on(history, &mut self.lab, &self.settings.conditional) {
+        match search.go_on(history, &mut self.lab, &mut self.settings.conditional) {
             Ok(Some(found)) => {
-                self.begin_anew();
+                self.release();
                 Ok(Some(found))
             }
             Ok(None) => Ok(None),

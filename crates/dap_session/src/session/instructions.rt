@@ -1,6 +1,6 @@
 //! Breakpoints at instructions.
 ghost use Rattle.std.specs.Prelude.{◌≡◌, ◌≤◌, length};
-ghost use Rattle.dap_session.specs.Breakpoints.{instructions_wanted, setting_instructions};
+ghost use Rattle.dap_session.specs.Breakpoints.{instructions_list, setting_instructions};
 ghost use Rattle.dap_session.specs.States.{SessionState, with_points};
 ghost use Rattle.dap_session.specs.Represents.{RepresentsSession, RepliesAs, FindsWanted};
 
@@ -12,6 +12,7 @@ use dap_launch::points::instructions_where;
 use dap_launch::program::{ProgramBreakpoints, conditional_for, wanted_of};
 use dap_launch::reply::{Reply, succeed};
 use dap_messages::message::EditorBody;
+use dap_points::placed::INSTRUCTION_NUMBER;
 use dap_program::messages::FollowUp;
 use dap_slice::conditions::ConditionalBreakpoints;
 use std::alloc::{AllocError, Global};
@@ -32,7 +33,7 @@ impl Session {
         let points = instructions_where(alloc, program, breakpoints, &self.lab)?;
         let conditional = self.breaks_with(alloc, breakpoints)?;
         self.keep_instructions(kept);
-        self.keep_conditional(conditional);
+        self.keep_conditional(INSTRUCTION_NUMBER, conditional);
         Ok(succeed(EditorBody::Breakpoints(points), FollowUp::Nothing))
     }
 
@@ -43,15 +44,14 @@ impl Session {
         self.settings.points.set_instructions(instructions);
     }
 
-    // The program's breakpoints that have options, and those that aren't on lines, with these at
-    // instructions.
+    // The breakpoints at which the program's run stops, with these at instructions.
     fn breaks_with(
         &self,
         alloc: Global,
         instructions: &[InstructionBreakpoint],
     ) -> Result<Option<ConditionalBreakpoints>, AllocError>
         requires { length instructions.now ≤ 256 }
-        ensures { FindsWanted (instructions_wanted instructions.now) self.now result }
+        ensures { FindsWanted (instructions_list instructions.now) self.now result }
     {
         match &self.settings.program {
             None => Ok(None),

@@ -1,6 +1,6 @@
 //! Breakpoints on data.
 ghost use Rattle.std.specs.Prelude.{◌≡◌, ◌≤◌, length};
-ghost use Rattle.dap_session.specs.Breakpoints.{data_wanted, setting_data, describing_data};
+ghost use Rattle.dap_session.specs.Breakpoints.{data_list, setting_data, describing_data};
 ghost use Rattle.dap_session.specs.States.{SessionState, with_points};
 ghost use Rattle.dap_session.specs.Represents.{RepresentsSession, RepliesAs, FindsWanted};
 
@@ -13,6 +13,7 @@ use dap_launch::points::data_where;
 use dap_launch::program::{ProgramBreakpoints, conditional_for, wanted_of};
 use dap_launch::reply::{Reply, succeed};
 use dap_messages::message::EditorBody;
+use dap_points::placed::DATA_NUMBER;
 use dap_program::messages::FollowUp;
 use dap_slice::conditions::ConditionalBreakpoints;
 use std::alloc::{AllocError, Global};
@@ -44,7 +45,7 @@ impl Session {
         let points = data_where(alloc, &self.settings.program, breakpoints, &self.lab)?;
         let conditional = self.watches_with(alloc, breakpoints)?;
         self.keep_data(kept);
-        self.keep_conditional(conditional);
+        self.keep_conditional(DATA_NUMBER, conditional);
         Ok(succeed(EditorBody::Breakpoints(points), FollowUp::Nothing))
     }
 
@@ -55,14 +56,14 @@ impl Session {
         self.settings.points.set_data(on_data);
     }
 
-    // The program's breakpoints that have options, and those that aren't on lines, with these on data.
+    // The breakpoints at which the program's run stops, with these on data.
     fn watches_with(
         &self,
         alloc: Global,
         on_data: &[DataBreakpoint],
     ) -> Result<Option<ConditionalBreakpoints>, AllocError>
         requires { length on_data.now ≤ 256 }
-        ensures { FindsWanted (data_wanted on_data.now) self.now result }
+        ensures { FindsWanted (data_list on_data.now) self.now result }
     {
         match &self.settings.program {
             None => Ok(None),

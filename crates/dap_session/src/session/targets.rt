@@ -1,15 +1,15 @@
 //! Lines to which PC can be set.
 ghost use Rattle.std.specs.Prelude.{◌≡◌};
-ghost use Rattle.dap_session.specs.Breakpoints.{program_at};
+ghost use Rattle.dap_launch.specs.Programs.{program_at};
 ghost use Rattle.dap_session.specs.States.{SessionState};
 ghost use Rattle.dap_session.specs.Targets as targets;
 ghost use Rattle.dap_session.specs.Targets.{finding_target, going_to};
 ghost use Rattle.dap_session.specs.Represents.{RepresentsSession, Replies, RepliesAs};
 
 use crate::session::Session;
-use crate::session::breakpoints::program_at;
 use base_text::text::Text;
 use dap_launch::life::release_program;
+use dap_launch::program::program_at;
 use dap_launch::reply::{Reply, accept, succeed};
 use dap_lines::target::first_target;
 use dap_messages::message::{EditorBody, EditorStop, GotoTarget};

@@ -7,7 +7,8 @@ use Rattle.dap_lines.proofs.conditions.push_points.Given as goal
 -- those so far, and those of the breakpoints that are left
 abbrev pub invariant-loop-point : goal.invariant-loop-point
 invariant-loop-point l = (b : Board) → RepresentsBoard l.fn.lab b
-    → l.points ++ conditional_points l.path b l.left ≡ l.fn.points ++ conditional_points l.path b l.placed
+    → l.points ++ conditional_points l.path l.taken b l.left
+    ≡ l.fn.points ++ conditional_points l.path l.taken b l.placed
 
 abbrev pub decreases-loop-point : goal.decreases-loop-point
 decreases-loop-point l = length l.left

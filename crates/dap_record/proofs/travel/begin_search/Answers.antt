@@ -14,7 +14,8 @@ returns c = λ r s represents recording is.
     ap (λ (v : RecordingFields). v.count) c.recording.view_is ∙ recording.count in
     let parts : SameParts (board_at r.start r.log c.recording.inside.count) s.board =
     subst (λ n. SameParts (board_at r.start r.log n) s.board) (sym count) recording.parts in
-    subst (λ (reply : Reply). Replies (leaving (goal_of c.args.back s.board) c.args.back r s) reply (record {
+    let reply = leaving (goal_of c.args.back r.count s) c.args.back r s in
+    subst (λ (told : Reply). Replies reply told (record {
       session = c.begin_search.new.self;
       recording = Some c.args.recording.now;
       search = Some (record { goal = c.args.goal; search = c.in_ok-search.search });

@@ -1,9 +1,8 @@
-use Rattle.std.proofs.Common.{refl}
-use Rattle.dap_slice.proofs.SliceLemmas.{few_made}
+use Rattle.dap_slice.proofs.SliceLemmas.{plain_end}
 use Rattle.dap_slice.proofs.slice.plain_slice.Goals as goal
 
-pub returns-clause-few : goal.returns-clause-few
-returns-clause-few c = λ b represents.
-    let n = c.args.most in
-    few_made c.apply-answer.result c.slice_in.result n c.requires.1
-    (c.apply-answer.ensures.few n b refl represents) c.slice_in.ensures.ok
+pub returns-clause-made : goal.returns-clause-made
+returns-clause-made c = λ b represents running.
+    plain_end c.args.points.now c.args.most b c.in_ok-executed.field-0 c.ids_told-ids.result
+    c.board_slice.new.lab c.requires.plain (c.in_ok-executed.ensures.made b represents running)
+    c.ids_told-ids.ensures

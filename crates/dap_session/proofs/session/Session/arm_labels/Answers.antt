@@ -1,6 +1,6 @@
 use Rattle.std.proofs.Common.{◌≡◌, ap, subst, sym}
 use Rattle.dap_launch.specs.Programs.{ProgramLists, lists_in}
-use Rattle.dap_session.specs.Breakpoints.{labels_wanted}
+use Rattle.dap_session.specs.Breakpoints.{labels_list, labels_wanted}
 use Rattle.dap_session.specs.Represents.{SessionFields, RepresentsSession}
 use Rattle.dap_session.proofs.ArmLemmas.{armed_found}
 use Rattle.dap_session.proofs.session.Session.arm_labels.Goals as goal
@@ -13,5 +13,5 @@ returns-in_ok-points-in-Some-clause-ok c = λ s represents.
     let lists : ProgramLists = record (lists_in c.wanted_of.result) { functions = functions } in
     let are : lists ≡ labels_wanted functions c.self.inside.settings.points program =
     ap (λ (w : ProgramLists). record w { functions = functions }) c.wanted_of.ensures.lists in
-    armed_found (λ o. o) (labels_wanted functions) c.in_ok-points-in-Some.points _ c.arm_with.new.lab program
+    armed_found (labels_list functions) (λ o. o) c.in_ok-points-in-Some.points _ c.arm_with.new.lab program
     lists s (subst Q (sym c.self.view_is) represents) c.in-Some.is are c.in_ok-points-in-Some.ensures.ok

@@ -1,7 +1,8 @@
 use Rattle.std.proofs.Common.{◌≡◌, ◌∙◌, List, Some, ap, subst, sym}
 use Rattle.dap_editor.specs.declared.request.LineBreakpoint.{LineBreakpoint}
 use Rattle.dap_launch.specs.Programs.{ProgramLists, lists_in, program_lists}
-use Rattle.dap_session.specs.Breakpoints.{program_at, lines_wanted}
+use Rattle.dap_launch.specs.Programs.{program_at}
+use Rattle.dap_session.specs.Breakpoints.{lines_list, lines_wanted}
 use Rattle.dap_session.specs.Represents.{SessionFields, RepresentsSession}
 use Rattle.dap_session.proofs.ArmLemmas.{armed_found}
 use Rattle.dap_session.proofs.session.Session.arm_lines.Goals as goal
@@ -19,5 +20,5 @@ returns-in_ok-points-in-Some-clause-ok c = λ s represents.
     ap (λ (w : ProgramLists). record w { lines = c.used.result.now }) c.wanted_of.ensures.lists
     ∙ ap (λ (ls : List LineBreakpoint). record (program_lists program settings.points) { lines = ls })
     c.used.ensures.lines in
-    armed_found (program_at l.path) (lines_wanted l) c.in_ok-points-in-Some.points _ c.arm_with.new.lab
+    armed_found (lines_list l) (program_at l.path) c.in_ok-points-in-Some.points _ c.arm_with.new.lab
     program lists s (subst Q (sym c.self.view_is) represents) at are c.in_ok-points-in-Some.ensures.ok

@@ -1,6 +1,6 @@
 use Rattle.std.proofs.Common.{◌≡◌, ap, subst, sym}
 use Rattle.dap_launch.specs.Programs.{ProgramLists, lists_in}
-use Rattle.dap_session.specs.Breakpoints.{instructions_wanted}
+use Rattle.dap_session.specs.Breakpoints.{instructions_list, instructions_wanted}
 use Rattle.dap_session.specs.Represents.{SessionFields, RepresentsSession}
 use Rattle.dap_session.proofs.ArmLemmas.{wanted_found}
 use Rattle.dap_session.proofs.session.Session.breaks_with.Goals as goal
@@ -15,5 +15,5 @@ returns-in_ok-points-in-Some c = λ s represents.
     let kept = c.self.inside.settings.points in
     let are : lists ≡ instructions_wanted instructions kept program =
     ap (λ (w : ProgramLists). record w { instructions = instructions }) c.wanted_of.ensures.lists in
-    wanted_found (instructions_wanted instructions) c.in_ok-points-in-Some.points _ program lists s viewed
+    wanted_found (instructions_list instructions) c.in_ok-points-in-Some.points _ program lists s viewed
     c.in-Some.is are (c.in_ok-points-in-Some.ensures s.board viewed.board)

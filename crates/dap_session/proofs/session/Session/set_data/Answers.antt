@@ -8,7 +8,7 @@ use Rattle.dap_launch.specs.declared.reply.Reply.{Reply}
 use Rattle.dap_launch.specs.Points.{data_where}
 use Rattle.dap_session.specs.declared.settings.SessionSettings.{SessionSettings}
 use Rattle.dap_session.specs.States.{with_points, with_conditional}
-use Rattle.dap_session.specs.Breakpoints.{conditional_where, data_wanted, setting_data}
+use Rattle.dap_session.specs.Breakpoints.{conditional_where, data_list, setting_data}
 use Rattle.dap_session.specs.Represents.{SessionFields, RepresentsSession, Replies}
 use Rattle.dap_session.proofs.session.Session.set_data.Goals as goal
 
@@ -35,7 +35,7 @@ returns c = (
             viewed.settings);
         follow = ap (λ (r : Reply). r.follow) c.succeed.ensures;
         represents =
-            subst (λ ds. R ds (conditional_where program (data_wanted on_data p) s)) c.in_ok-kept.ensures
+            subst (λ ds. R ds (conditional_where (data_list on_data) program s)) c.in_ok-kept.ensures
             (subst (R c.in_ok-kept.kept) found
             (c.keep_conditional.ensures _ (c.keep_data.ensures _ represents)));
       } in

@@ -6,7 +6,8 @@ use Rattle.dap_messages.specs.declared.message.PlacedBreakpoint.{PlacedBreakpoin
 use Rattle.dap_editor.specs.declared.request.FunctionBreakpoint.{FunctionBreakpoint}
 use Rattle.dap_launch.specs.declared.reply.Reply.{Reply}
 use Rattle.dap_session.specs.States.{with_board, with_points, with_conditional}
-use Rattle.dap_session.specs.Breakpoints.{armed_where, conditional_where, labels_wanted, setting_functions}
+use Rattle.dap_session.specs.Breakpoints.{armed_where, conditional_where, labels_list, labels_wanted}
+use Rattle.dap_session.specs.Breakpoints.{setting_functions}
 use Rattle.dap_session.specs.Represents.{RepresentsSession, Replies}
 use Rattle.dap_session.proofs.session.Session.set_functions.Goals as goal
 
@@ -30,7 +31,7 @@ returns c = (
             (c.in_ok-points.ensures s represents);
         follow = ap (λ (r : Reply). r.follow) c.succeed.ensures;
         represents =
-            subst (λ fs. R fs (conditional_where program (labels_wanted labels p) s)) c.in_ok-kept.ensures
+            subst (λ fs. R fs (conditional_where (labels_list labels) program s)) c.in_ok-kept.ensures
             (subst (R c.in_ok-kept.kept) armed.0
             (c.keep_conditional.ensures _ (c.keep_functions.ensures _ armed.1)));
       } in

@@ -8,7 +8,7 @@ use Rattle.dap_launch.specs.declared.reply.Reply.{Reply}
 use Rattle.dap_launch.specs.Points.{instructions_where}
 use Rattle.dap_session.specs.declared.settings.SessionSettings.{SessionSettings}
 use Rattle.dap_session.specs.States.{with_points, with_conditional}
-use Rattle.dap_session.specs.Breakpoints.{conditional_where, instructions_wanted, setting_instructions}
+use Rattle.dap_session.specs.Breakpoints.{conditional_where, instructions_list, setting_instructions}
 use Rattle.dap_session.specs.Represents.{SessionFields, RepresentsSession, Replies}
 use Rattle.dap_session.proofs.session.Session.set_instructions.Goals as goal
 
@@ -36,7 +36,7 @@ returns c = (
             viewed.settings);
         follow = ap (λ (r : Reply). r.follow) c.succeed.ensures;
         represents =
-            subst (λ ds. R ds (conditional_where program (instructions_wanted instructions p) s))
+            subst (λ ds. R ds (conditional_where (instructions_list instructions) program s))
             c.in_ok-kept.ensures
             (subst (R c.in_ok-kept.kept) found
             (c.keep_conditional.ensures _ (c.keep_instructions.ensures _ represents)));

@@ -1,16 +1,12 @@
-use Rattle.std.proofs.Common.{◌≡◌, [], arith}
-use Rattle.std.proofs.lemmas.List.{nil_from_length}
-use Rattle.dap_slice.proofs.SliceLemmas.{plain_end, plain_counted}
+use Rattle.std.proofs.Common.{◌≡◌, ◌∙◌, false, ap, sym}
+use Rattle.dap_slice.specs.Conditions.{is_any_looked_for}
+use Rattle.dap_slice.proofs.SliceLemmas.{plain_counted}
 use Rattle.dap_slice.proofs.conditions.ConditionalBreakpoints.slice.Goals as goal
 
-pub returns-then-is_empty-clause-made : goal.returns-then-is_empty-clause-made
-returns-then-is_empty-clause-made c = λ b represents running.
-    let none : c.args.self.now ≡ [] = nil_from_length _ (grind (arith, c.is_empty.ensures)) in
-    plain_end c.args.self.now c.args.most b c.plain_slice.result c.plain_slice.new.lab none
+pub returns-else-is_any_looked_for-clause-hits : goal.returns-else-is_any_looked_for-clause-hits
+returns-else-is_any_looked_for-clause-hits c = λ b represents running.
+    let none : is_any_looked_for c.args.self.now ≡ false =
+    ap is_any_looked_for (sym c.self.view_is ∙ sym c.deref.ensures.value)
+    ∙ (sym c.is_any_looked_for.ensures ∙ c.if-is_any_looked_for.false) in
+    plain_counted c.args.self.now b c.plain_slice.result _ none
     (c.plain_slice.ensures.made b represents running)
-
-pub returns-then-is_empty-clause-hits : goal.returns-then-is_empty-clause-hits
-returns-then-is_empty-clause-hits c = λ b represents running.
-    let none : c.args.self.now ≡ [] = nil_from_length _ (grind (arith, c.is_empty.ensures)) in
-    plain_counted c.args.self.now c.args.self.now c.args.most b c.plain_slice.result c.plain_slice.new.lab
-    none none (c.plain_slice.ensures.made b represents running)

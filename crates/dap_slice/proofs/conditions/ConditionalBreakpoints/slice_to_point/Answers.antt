@@ -3,6 +3,7 @@ use Rattle.lab_core.specs.Slices.{after_steps}
 use Rattle.dap_slice.specs.Conditions.{IsMarked}
 use Rattle.dap_slice.specs.Changes.{IsAfterStep}
 use Rattle.dap_slice.specs.Counts.{points_after}
+use Rattle.dap_slice.specs.Stops.{ids_told}
 use Rattle.dap_slice.specs.SliceEnds.{outcome_if_met, change_told}
 use Rattle.dap_slice.proofs.CountLemmas.{same_after, after_same, marked_same}
 use Rattle.dap_slice.proofs.SliceLemmas.{Points, slice_counts, run_after, whole, still_marked, same_marks}
@@ -32,10 +33,17 @@ returns-clause-made c = λ b represents running.
     let told = c.change_told-change.ensures was now ended.1 step in
     let O : Points → Type 0 = λ ps. ending ≡ outcome_if_met ps was now s.outcome in
     let C : Points → Type 0 = λ ps. c.change_told-change.result ≡ change_told ps was now ending in
+    let numbered = c.ids_told-ids.ensures was now ended.1 (c.watches.ensures ∙ step.watches) in
+    let I : Points → Type 0 = λ ps. c.ids_told-ids.result ≡ ids_told ps was now ending in
     rw (← c.self.view_is)
-    (whole all.items c.args.most b (record s { outcome = ending; change = c.change_told-change.result })
-    s.outcome c.slice_to-answer.new.self c.end_at-outcome.new.lab made.came (subst O seen ended.0)
-    (subst C seen told) ended.1)
+    (whole all.items c.args.most b (record {
+      executed = s.executed;
+      traffic = s.traffic;
+      outcome = ending;
+      change = c.change_told-change.result;
+      ids = c.ids_told-ids.result;
+    }) s.outcome c.slice_to-answer.new.self c.end_at-outcome.new.lab made.came (subst O seen ended.0)
+    (subst C seen told) (subst I seen numbered) ended.1)
 
 pub returns-clause-hits : goal.returns-clause-hits
 returns-clause-hits c = λ b represents running.

@@ -1,0 +1,4 @@
+pub mod PointLemmas
+pub mod SeekLemmas
+pub mod RecountLemmas
+pub mod SearchLemmas

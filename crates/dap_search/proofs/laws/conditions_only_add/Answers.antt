@@ -1,0 +1,5 @@
+use Rattle.dap_search.proofs.SeekLemmas.{conditions_add}
+use Rattle.dap_search.proofs.laws.conditions_only_add.Goals as goal
+
+pub returns : goal.returns
+returns c = conditions_add
