@@ -1,0 +1,10 @@
+pub mod Faults
+pub mod Outcome
+pub mod Record
+pub mod Lines
+pub mod Contents
+pub mod Taken
+pub mod File
+pub mod Cells
+pub mod Written
+pub mod Law
