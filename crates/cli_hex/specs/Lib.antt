@@ -1,0 +1,4 @@
+pub mod Answer
+pub mod Binary
+pub mod HexOutput
+pub mod ListOutput
