@@ -5,3 +5,4 @@ pub mod WritingLemmas
 pub mod RecordRead
 pub mod ReadBack
 pub mod CellsLemmas
+pub mod ImageRead
