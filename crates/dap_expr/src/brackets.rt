@@ -24,8 +24,8 @@ pub enum Width {
 /// A read of memory.
 #[derive(Drop)]
 pub struct Read {
-    pub(crate) width: Width,
-    pub(crate) address: Expr,
+    pub width: Width,
+    pub address: Expr,
 }
 
 /// A bracket that isn't closed yet.

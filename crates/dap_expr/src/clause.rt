@@ -33,9 +33,9 @@ pub enum Sense {
 /// A part of a condition. The first one's joint is `Or`.
 #[derive(Drop)]
 pub struct Clause {
-    pub(crate) joint: Joint,
-    pub(crate) sense: Sense,
-    pub(crate) term: Term,
+    pub joint: Joint,
+    pub sense: Sense,
+    pub term: Term,
 }
 
 /// The parts so far, and the tokens of the one that isn't complete.

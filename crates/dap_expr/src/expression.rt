@@ -19,7 +19,7 @@ const MOST_BYTES: usize = 1024;
 /// An expression that was read once.
 #[derive(Drop)]
 pub struct Expression {
-    pub(crate) clauses: Sequence<Clause>,
+    pub clauses: Sequence<Clause>,
 }
 
 /// The expression of the assembler's tokens.

@@ -4,13 +4,13 @@
 // says that a text that the assembler takes has the value that it has there.
 #![tactic(auto)]
 
-mod brackets;
-mod clause;
+pub mod brackets;
+pub mod clause;
 pub mod expression;
 mod hexadecimal;
 pub mod laws;
 mod names;
-mod part;
-mod term;
-mod value;
+pub mod part;
+pub mod term;
+pub mod value;
 mod words;

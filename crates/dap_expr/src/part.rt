@@ -9,7 +9,7 @@ use i80_exec::registers::Registers;
 
 /// A part of the machine that an expression can name.
 #[derive(Clone, Copy)]
-pub(crate) enum Part {
+pub enum Part {
     /// What a register word names: M is the byte at HL, and PSW is A and the flag byte.
     Register(RegisterWord),
     Bc,
@@ -41,7 +41,7 @@ fn register_name(word: RegisterWord) -> &'static str
 }
 
 /// The name of a part that no symbol has.
-pub(crate) fn own_name(part: Part) -> &'static str
+pub fn own_name(part: Part) -> &'static str
     ensures { result.now ≡ parts.own_name part }
 {
     match part {
@@ -59,7 +59,7 @@ pub(crate) fn own_name(part: Part) -> &'static str
 }
 
 /// The part with this name that a symbol may have too.
-pub(crate) fn part_named(name: &[u8]) -> Option<Part>
+pub fn part_named(name: &[u8]) -> Option<Part>
     ensures { result ≡ parts.part_named name.now }
 {
     match name {
@@ -108,7 +108,7 @@ fn register_owning(name: &[u8]) -> Option<RegisterWord>
 }
 
 /// The part that alone has this name.
-pub(crate) fn part_owning(name: &[u8]) -> Option<Part>
+pub fn part_owning(name: &[u8]) -> Option<Part>
     ensures { result ≡ parts.part_owning name.now }
 {
     match name {
@@ -135,7 +135,7 @@ fn word(high: u8, low: u8) -> u16
 }
 
 /// The address in HL.
-pub(crate) fn hl(regs: Registers) -> u16
+pub fn hl(regs: Registers) -> u16
     ensures { result ≡ 256 * regs.h + regs.l }
 {
     word(regs.h, regs.l)
@@ -165,7 +165,7 @@ fn bit(flag: bool) -> u16
 }
 
 /// The value of a part, where `m` is the byte at HL.
-pub(crate) fn part_value(regs: Registers, m: u8, part: Part) -> u16
+pub fn part_value(regs: Registers, m: u8, part: Part) -> u16
     ensures { result ≡ parts.part_value regs m part }
 {
     match part {

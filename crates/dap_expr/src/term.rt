@@ -17,8 +17,8 @@ use std::alloc::Global;
 /// Reads of memory, and the expression in which names stand for them.
 #[derive(Drop)]
 pub struct Term {
-    pub(crate) reads: Sequence<Read>,
-    pub(crate) tree: Expr,
+    pub reads: Sequence<Read>,
+    pub tree: Expr,
 }
 
 fn placed_well(tokens: &[Placed<'_>]) -> Result<(), LineFault>

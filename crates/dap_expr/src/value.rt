@@ -16,7 +16,7 @@ use asm_expr::expression::Expr;
 use lab_core::lab::Lab;
 
 /// The word at an address, low byte first.
-fn word_at(lab: &Lab, address: u16) -> u16
+pub fn word_at(lab: &Lab, address: u16) -> u16
     ensures { (b : Board) → RepresentsBoard lab.now b → result ≡ word_at b.machine address }
 {
     let low = u16::from(lab.peek(address));
@@ -24,7 +24,7 @@ fn word_at(lab: &Lab, address: u16) -> u16
     high * 256 + low
 }
 
-fn read_at(lab: &Lab, width: Width, address: u16) -> u16
+pub fn read_at(lab: &Lab, width: Width, address: u16) -> u16
     ensures { (b : Board) → RepresentsBoard lab.now b → result ≡ values.read_at b.machine width address }
 {
     match width {
@@ -34,7 +34,7 @@ fn read_at(lab: &Lab, width: Width, address: u16) -> u16
 }
 
 /// The value of a tree after these reads.
-fn tree_value(lab: &Lab, reads: &[u16; 16], tree: &Expr) -> Result<u16, ExprFault>
+pub fn tree_value(lab: &Lab, reads: &[u16; 16], tree: &Expr) -> Result<u16, ExprFault>
     ensures { (b : Board) → RepresentsBoard lab.now b → result ≡ values.tree_value b reads.now tree.now }
 {
     let names = Names {
@@ -66,7 +66,7 @@ fn with_value(before: [u16; 16], number: usize, value: u16) -> [u16; 16]
 
 /// The values of reads.
 #[tactic(auto, unfolding(crate::specs::Values::values_from))]
-fn read_values(lab: &Lab, reads: &[Read]) -> Result<[u16; 16], ExprFault>
+pub fn read_values(lab: &Lab, reads: &[Read]) -> Result<[u16; 16], ExprFault>
     ensures { (b : Board) → RepresentsBoard lab.now b → result ≡ values.read_values b reads.now }
 {
     let mut values = [0; 16];

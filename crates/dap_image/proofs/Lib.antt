@@ -1,0 +1,3 @@
+pub mod HexBytes
+pub mod Assembled
+pub mod Loaded
