@@ -71,12 +71,13 @@ def wait_for(what, is_so, seconds=30):
 class Kate:
     """A window with a program and the cursor on a line. It ends with a `with`."""
 
-    def __init__(self, folder, path, line):
+    def __init__(self, folder, path, line, launch="debug"):
+        """Launches are named as in editors/kate/dap.json."""
         self.folder = folder
         self.screen = subprocess.Popen(
             ["Xvfb", "-displayfd", "1", "-screen", "0", f"{WIDTH}x{HEIGHT}x24", "-nolisten", "tcp"],
             stdout=subprocess.PIPE, stderr=subprocess.DEVNULL, text=True)
-        self.environment = self.prepare(path) | {"DISPLAY": ":" + self.screen.stdout.readline().strip()}
+        self.environment = self.prepare(path, launch) | {"DISPLAY": ":" + self.screen.stdout.readline().strip()}
         self.kate = subprocess.Popen(
             ["dbus-run-session", "--", "kate", "-n", "-s", "lab80", "-l", str(line), path],
             env=self.environment, stdin=subprocess.DEVNULL, stdout=subprocess.DEVNULL, stderr=subprocess.DEVNULL,
@@ -96,7 +97,7 @@ class Kate:
         self.screen.kill()
         self.screen.communicate()
 
-    def prepare(self, path):
+    def prepare(self, path, launch):
         """Makes a home folder with the debugger's configuration, placed as in docs/EDITORS.md."""
         home, programs, runtime = (os.path.join(self.folder, name) for name in ("home", "programs", "runtime"))
         configuration = os.path.join(home, ".config/kate/gdbplugin")
@@ -107,7 +108,7 @@ class Kate:
         os.mkdir(runtime, 0o700)
         shutil.copy(os.path.join(TOP, "editors/kate/dap.json"), configuration)
         shutil.copy(os.path.join(TOP, "editors/kate/i8080.xml"), colours)
-        target = {"debuggerKey": "lab80", "debuggerProfile": "debug", "target": "program", "variables": {"file": path}}
+        target = {"debuggerKey": "lab80", "debuggerProfile": launch, "target": "program", "variables": {"file": path}}
         with open(os.path.join(sessions, "lab80.katesession"), "w", encoding="utf-8") as file:
             file.write(SESSION.format(target=json.dumps(target)))
         with open(os.path.join(programs, "lab80-dap"), "w", encoding="utf-8") as file:

@@ -49,7 +49,7 @@ WATCHES = (
      '"reason":"data breakpoint","threadId":1},"event":"stopped","seq":8,"type":"event"}'),
     ('{"seq":7,"type":"request","command":"stackTrace","arguments":{"threadId":1}}',
      '{"body":{"stackFrames":[{"column":1,"id":1,"instructionPointerReference":"0x0005","line":3,"name":"main",'
-     '"source":{"path":"PATH"}}],"totalFrames":1},"command":"stackTrace","request_seq":7,"seq":9,"success":true,'
+     '"source":{"name":"program.asm","path":"PATH"}}],"totalFrames":1},"command":"stackTrace","request_seq":7,"seq":9,"success":true,'
      '"type":"response"}'),
     ('{"seq":8,"type":"request","command":"continue","arguments":{"threadId":1}}',
      '{"body":{"allThreadsContinued":true},"command":"continue","request_seq":8,"seq":10,"success":true,"type":"response"}',

@@ -68,7 +68,8 @@ ARGUMENTS = {
     "initialize": {"supportsInvalidatedEvent": (True, *NO_TRUTHS), "supportsMemoryEvent": (True, *NO_TRUTHS)},
     "launch": {"program": ("x", GONE, 1, None), "stopOnEntry": (True, *NO_TRUTHS), "stopAtEnd": (True, *NO_TRUTHS),
                "noDebug": (True, *NO_TRUTHS), "aliases": (True, *NO_TRUTHS), "switches": (5, 256, -1, 1.0, "1", None),
-               "input": ("x", 1, None, ["x"]), "watchCommands": (True, *NO_TRUTHS)},
+               "input": ("x", 1, None, ["x"]), "watchCommands": (True, *NO_TRUTHS), "origin": (5, 65_536, -1, 1.0, "1", None),
+               "start": (5, 65_536, -1, 1.0, "1", None)},
     "setBreakpoints": {"source": (SOURCE, *NO_SOURCES),
                        "breakpoints": ([], *NO_LISTS, [{"line": -1}], [{"condition": "A"}], [{"line": 1}] * 257)},
     "breakpointLocations": {"source": (SOURCE, *NO_SOURCES), "line": (1, GONE, *NO_NUMBERS), "endLine": (1, *NO_NUMBERS)},
@@ -81,6 +82,11 @@ ARGUMENTS = {
     "dataBreakpointInfo": {"variablesReference": (1, *NO_NUMBERS), "name": ("A", GONE, 1), "bytes": (1, *NO_NUMBERS),
                            "asAddress": (True, *NO_TRUTHS)},
     "evaluate": {"expression": ("A", GONE, 1, None), "context": ("watch", 1, None, ["repl"])},
+    "scopes": {"frameId": (1, GONE, *NO_NUMBERS)},
+    "variables": {"variablesReference": (1, GONE, *NO_NUMBERS), "start": (1, *NO_NUMBERS), "count": (1, *NO_NUMBERS)},
+    "setVariable": {"variablesReference": (1, GONE, *NO_NUMBERS), "name": ("A", GONE, 1, None), "value": ("1", GONE, 1, None)},
+    "setExpression": {"expression": ("A", GONE, 1, None), "value": ("1", GONE, 1, None)},
+    "completions": {"text": ("A", GONE, 1, None), "column": (1, GONE, *NO_NUMBERS)},
     "readMemory": {"memoryReference": ("0x0000", *NO_REFERENCES), "offset": (-1, 0.5, "1", None, -4_294_967_296),
                    "count": (1, GONE, *NO_NUMBERS)},
     "writeMemory": {"memoryReference": ("0x0000", *NO_REFERENCES), "offset": (-1, 0.5, "1", None, -4_294_967_296),
@@ -94,9 +100,8 @@ ARGUMENTS = {
 
 # Requests with invalid arguments that the kernel has too.
 WRONG_ARGUMENTS = (
-    ("next", {"granularity": 1}), ("stepIn", {"granularity": None}), ("stepOut", []), ("stackTrace", 1), ("scopes", {}),
-    ("variables", {}), ("setVariable", {"variablesReference": 1, "name": "A"}), ("source", {}), ("boardSwitches", {"value": 256}),
-    ("boardPress", {}), ("boardType", {"text": 1}), ("boardAliases", {"aliases": 1}),
+    ("next", {"granularity": 1}), ("stepIn", {"granularity": None}), ("stepOut", []), ("stackTrace", 1), ("source", {}),
+    ("boardSwitches", {"value": 256}), ("boardPress", {}), ("boardType", {"text": 1}), ("boardAliases", {"aliases": 1}),
 )
 
 # Bodies that aren't requests, or have no number.

@@ -9,7 +9,8 @@ import unittest
 import xml.etree.ElementTree
 
 import kate
-from dap_wire import TOP, debugger
+import test_hex
+from dap_wire import TOP, debugger, example
 from editor import Session
 
 EDITORS = os.path.join(TOP, "editors")
@@ -29,9 +30,9 @@ $ lab80: 00107H
 switches 5 lab80: ok
 switches 256 lab80: a number from 0 to 255 must follow
 B lab80: 009H
-0100 lab80: the value is no number that fits there
-scopes: Registers Flags Devices Symbols Memory
-registers: 033H 009H 000H 000H 000H 000H 000H 00000H 00107H
+0100 lab80: the value must be from 0 to 255
+scopes: Registers Flags Stack Devices Symbols Memory
+registers: 033H 009H 000H 000H 000H 000H 000H 00000H 00107H 00900H 00000H 00000H 03312H
 lab80-dap-run: SHOW, line 10, cursor in line 10
 B lab80: 001H
 lab80-dap-run: main, line 10, cursor in line 10
@@ -125,13 +126,21 @@ class Kate(Session):
             self.debug(window, path)
             kate.wait_for("no process of the debugger", lambda: "tee" not in dict(window.processes()))
 
+    def place(self, window):
+        """The routine and the line that Kate was told last."""
+        frames = [it for it in window.said() if it.get("command") == "stackTrace"][-1]["body"]["stackFrames"]
+        return frames[0]["name"], frames[0]["line"]
+
+    def picture(self, window, name):
+        if os.environ.get("LAB80_PICTURES"):
+            window.picture(os.path.join(os.environ["LAB80_PICTURES"], name))
+
     def debug(self, window, path):
         def stops(count):
             return lambda: len(window.events("stopped")) == count
 
         def line():
-            frames = [it for it in window.said() if it.get("command") == "stackTrace"][-1]["body"]["stackFrames"]
-            return frames[0]["name"], frames[0]["line"]
+            return self.place(window)
 
         window.do(kate.START, "initialized", lambda: window.events("initialized"))
         window.do(kate.BREAKPOINT, "breakpoints", lambda: window.asked()[-1]["command"] == "setBreakpoints")
@@ -143,8 +152,8 @@ class Kate(Session):
                                      (kate.STEP_IN, 4, ("main", 7))):
             window.do(letter, "a step", stops(count))
             self.assertEqual(line(), place)
-            if letter == kate.STEP_OVER and os.environ.get("LAB80_PICTURES"):
-                window.picture(os.path.join(os.environ["LAB80_PICTURES"], "kate.png"))
+            if letter == kate.STEP_OVER:
+                self.picture(window, "kate.png")
         window.do(kate.CONTINUE, "stopped at the breakpoint again", stops(5))
         window.do(kate.BREAKPOINT, "no breakpoints", lambda: window.asked()[-1]["command"] == "setBreakpoints")
         window.do(kate.CONTINUE, "held at its end", stops(6))
@@ -160,6 +169,42 @@ class Kate(Session):
         self.assertEqual("".join(body["output"] for body in window.events("output")), "321")
         self.assertEqual(window.events("exited"), [{"exitCode": 0}])
         self.assertEqual([it["message"] for it in window.said() if it.get("success") is False], ["the run begins here"])
+
+    def without_source(self, name, *words, text):
+        """The path of a file that lab80-hex writes."""
+        test_hex.setUpModule()
+        status, content = test_hex.call(*words, text=text)
+        self.assertEqual(status, test_hex.SUCCESS)
+        path = os.path.join(self.folder, name)
+        with open(path, "wb") as file:
+            file.write(content)
+        return path, content
+
+    def test_a_program_without_source(self):
+        """It is stepped, but Kate doesn't ask for its text."""
+        if not kate.is_here():
+            self.skipTest("Kate on a screen that nobody sees isn't here: kate, xvfb, xdotool")
+        path, _ = self.without_source("count.hex", text=example("count.asm"))
+        with kate.Kate(self.folder, path, 1, "from the first line") as window:
+            window.do(kate.START, "initialized", lambda: window.events("initialized"))
+            for letter, count, place in ((kate.CONTINUE, 1, ("main", 2)), (kate.STEP_OVER, 2, ("main", 3)),
+                                         (kate.STEP_OVER, 3, ("main", 4)), (kate.STEP_IN, 4, ("010BH", 8))):
+                window.do(letter, "a stop", lambda count=count: len(window.events("stopped")) == count)
+                self.assertEqual(self.place(window), place)
+            self.assertNotIn("source", [it["command"] for it in window.asked()])
+
+    def test_a_program_without_source_as_a_cell(self):
+        if not kate.is_here():
+            self.skipTest("Kate on a screen that nobody sees isn't here: kate, xvfb, xdotool")
+        _, content = self.without_source("count.hex", text=example("count.asm"))
+        path, _ = self.without_source("count-hex.asm", "--list", text=content)
+        with kate.Kate(self.folder, path, 8) as window:
+            window.do(kate.START, "initialized", lambda: window.events("initialized"))
+            window.do(kate.BREAKPOINT, "breakpoints", lambda: window.asked()[-1]["command"] == "setBreakpoints")
+            for letter, count, place in ((kate.CONTINUE, 1, ("010BH", 8)), (kate.STEP_OVER, 2, ("010BH", 9))):
+                window.do(letter, "a stop", lambda count=count: len(window.events("stopped")) == count)
+                self.assertEqual(self.place(window), place)
+            self.picture(window, "kate-hex.png")
 
 
 class VisualStudioCode(unittest.TestCase):
@@ -203,7 +248,7 @@ class VisualStudioCode(unittest.TestCase):
     def test_a_launch_has_the_debuggers_arguments(self):
         self.assertEqual({name: it["type"] for name, it in self.attributes().items()}, {
             "program": "string", "stopOnEntry": "boolean", "noDebug": "boolean", "aliases": "boolean", "switches": "integer",
-            "input": "string", "stopAtEnd": "boolean", "watchCommands": "boolean"})
+            "input": "string", "origin": "integer", "start": "integer", "stopAtEnd": "boolean", "watchCommands": "boolean"})
         for each in self.attributes().values():
             self.assertLessEqual(set(each), {"type", "description", "default", "minimum", "maximum"})
 
@@ -311,7 +356,7 @@ class Launches(Session):
         self.assertEqual(read["adapters"], {"lab80": {"name": "lab80", "command": ["lab80-dap"]}})
         launches = []
         for each in read["configurations"].values():
-            self.assertEqual((each["adapter"], each["filetypes"]), ("lab80", ["asm"]))
+            self.assertEqual((each["adapter"], each["filetypes"]), ("lab80", ["asm", "hex"]))
             self.assertEqual(each["breakpoints"], {"exception": {"undefined": "Y", "halt": "N"}})
             launch = each["configuration"] | {"program": each["configuration"]["program"].replace("${file}", path)}
             if "switches#json" in launch:
@@ -327,8 +372,9 @@ class Launches(Session):
         told = self.printed("nvim", "--headless", "-u", "NONE", "-i", "NONE", "-c", f"luafile {script}", "-c", "qa!")
         read = json.loads(told)
         self.assertEqual(read["adapters"], {"lab80": {"type": "executable", "command": "lab80-dap"}})
-        launches = [it | {"program": it["program"].replace("${file}", path)} for it in read["configurations"]["asm"]]
-        self.take(launches, path, ({}, FIRST_LINE, ALIASES, TYPED))
+        for filetype in ("asm", "hex"):
+            launches = [it | {"program": it["program"].replace("${file}", path)} for it in read["configurations"][filetype]]
+            self.take(launches, path, ({}, FIRST_LINE, ALIASES, TYPED))
 
     def test_dape(self):
         if not shutil.which("emacs"):

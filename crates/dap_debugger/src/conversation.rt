@@ -2,7 +2,7 @@
 ghost use Rattle.std.specs.Prelude.{◌≡◌, ◌++◌, ◌∷◌, [], List, OnOk, IfOk, IfErr};
 ghost use Rattle.base_text.specs.Bytes.{Bytes};
 ghost use Rattle.base_streams.specs.States.{OutletState};
-ghost use Rattle.dap_editor.specs.Paths.{path_in};
+ghost use Rattle.dap_launch.specs.Paths.{path_in};
 ghost use Rattle.dap_session.specs.Requests.{wanted_file};
 ghost use Rattle.dap_record.specs.Recordings.{RecordedState};
 ghost use Rattle.dap_record.specs.Represents.{RepresentsRecorded};
@@ -20,6 +20,7 @@ use base_streams::writing::write_all;
 use base_text::text::Text;
 use dap_editor::request::EditorRequest;
 use dap_launch::file::FileText;
+use dap_launch::paths::{named_path, with_canonical};
 use std::alloc::{AllocError, Global};
 use std::sync::Wait;
 
@@ -42,7 +43,7 @@ fn find_canonical<F: ProgramFiles>(
 ) -> Result<Option<Text>, AllocError>
     ensures { IfOk result (IsCanonical (F.known files.now) (path_in request.now.asked)) }
 {
-    match request.path() {
+    match named_path(request) {
         Some(path) => files.canonical(alloc, path),
         None => Ok(None),
     }
@@ -57,7 +58,7 @@ fn resolve<F: ProgramFiles>(
     ensures { IfOk result (IsResolved (F.known files.now) request) }
 {
     match find_canonical(alloc, files, &request) {
-        Ok(path) => Ok(request.with_canonical(path)),
+        Ok(path) => Ok(with_canonical(request, path)),
         Err(error) => {
             drop(request);
             Err(error)

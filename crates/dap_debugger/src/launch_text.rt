@@ -1,23 +1,38 @@
 //! The text of a program's file.
-ghost use Rattle.std.specs.Prelude.{◌≡◌};
-ghost use Rattle.dap_debugger.specs.LaunchTexts.{file_text};
+ghost use Rattle.std.specs.Prelude.{◌≡◌, None};
+ghost use Rattle.dap_debugger.specs.LaunchTexts.{file_as, file_text};
 
+use base_text::sequence::Bytes;
 use base_text::text::Text;
+use dap_file::kind::image_kind;
 use dap_launch::file::FileText;
 
 /// The most bytes that a program's text may have.
 pub const TEXT_SIZE: usize = 1_048_576;
 
-/// What a file has whose bytes these are; of a file that is too long it is enough to pass one byte more
-/// than a text may have.
-pub fn text_of(bytes: Vec<u8>) -> FileText
-    ensures { result ≡ file_text bytes.items }
+// The text that these bytes are, if they are one.
+fn text_in(bytes: Vec<u8>) -> FileText
+    ensures { result ≡ file_as None bytes.items }
+{
+    match String::from_utf8(bytes) {
+        Ok(text) => FileText::Text(Text::from(text)),
+        Err(_) => FileText::NotText,
+    }
+}
+
+/// What the file with this path has, of which these are the bytes; of a file that is too long it is enough to
+/// pass one byte more than a text may have.
+pub fn text_of(path: &str, bytes: Vec<u8>) -> FileText
+    ensures { result ≡ file_text path.now bytes.items }
 {
     if bytes.len() > TEXT_SIZE {
         return FileText::TooLong;
     }
-    match String::from_utf8(bytes) {
-        Ok(text) => FileText::Text(Text::from(text)),
-        Err(_) => FileText::NotText,
+    match image_kind(path) {
+        Some(kind) => FileText::Image {
+            kind,
+            bytes: Bytes::from(bytes),
+        },
+        None => text_in(bytes),
     }
 }

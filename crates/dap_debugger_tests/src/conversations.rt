@@ -13,14 +13,17 @@ const LETTER: &str = r#"
 > {"seq":1,"type":"request","command":"initialize"}
 < {"body":{"exceptionBreakpointFilters":[{"default":true,"filter":"undefined",
     "label":"Undefined opcodes"},{"default":false,"filter":"halt","label":"HLT"}],
-    "supportsBreakpointLocationsRequest":true,"supportsConditionalBreakpoints":true,
+    "supportsBreakpointLocationsRequest":true,"supportsCompletionsRequest":true,
+    "supportsConditionalBreakpoints":true,
     "supportsConfigurationDoneRequest":true,"supportsDataBreakpointBytes":true,
-    "supportsDataBreakpoints":true,"supportsDisassembleRequest":true,
+    "supportsDataBreakpoints":true,"supportsDelayedStackTraceLoading":true,
+    "supportsDisassembleRequest":true,
     "supportsEvaluateForHovers":true,"supportsExceptionInfoRequest":true,
     "supportsFunctionBreakpoints":true,"supportsGotoTargetsRequest":true,
     "supportsHitConditionalBreakpoints":true,"supportsInstructionBreakpoints":true,
     "supportsLoadedSourcesRequest":true,"supportsLogPoints":true,
-    "supportsReadMemoryRequest":true,"supportsRestartRequest":true,"supportsSetVariable":true,
+    "supportsReadMemoryRequest":true,"supportsRestartRequest":true,"supportsSetExpression":true,
+    "supportsSetVariable":true,
     "supportsStepBack":true,"supportsSteppingGranularity":true,"supportsTerminateRequest":true,
     "supportsWriteMemoryRequest":true},"command":"initialize","request_seq":1,"seq":1,"success":true,
     "type":"response"}
@@ -45,14 +48,17 @@ const LOOP: &str = r#"
 > {"seq":2,"type":"request","command":"initialize"}
 < {"body":{"exceptionBreakpointFilters":[{"default":true,"filter":"undefined",
     "label":"Undefined opcodes"},{"default":false,"filter":"halt","label":"HLT"}],
-    "supportsBreakpointLocationsRequest":true,"supportsConditionalBreakpoints":true,
+    "supportsBreakpointLocationsRequest":true,"supportsCompletionsRequest":true,
+    "supportsConditionalBreakpoints":true,
     "supportsConfigurationDoneRequest":true,"supportsDataBreakpointBytes":true,
-    "supportsDataBreakpoints":true,"supportsDisassembleRequest":true,
+    "supportsDataBreakpoints":true,"supportsDelayedStackTraceLoading":true,
+    "supportsDisassembleRequest":true,
     "supportsEvaluateForHovers":true,"supportsExceptionInfoRequest":true,
     "supportsFunctionBreakpoints":true,"supportsGotoTargetsRequest":true,
     "supportsHitConditionalBreakpoints":true,"supportsInstructionBreakpoints":true,
     "supportsLoadedSourcesRequest":true,"supportsLogPoints":true,
-    "supportsReadMemoryRequest":true,"supportsRestartRequest":true,"supportsSetVariable":true,
+    "supportsReadMemoryRequest":true,"supportsRestartRequest":true,"supportsSetExpression":true,
+    "supportsSetVariable":true,
     "supportsStepBack":true,"supportsSteppingGranularity":true,"supportsTerminateRequest":true,
     "supportsWriteMemoryRequest":true},"command":"initialize","request_seq":2,"seq":2,"success":true,
     "type":"response"}
@@ -76,14 +82,17 @@ const BACK: &str = r#"
 > {"seq":1,"type":"request","command":"initialize"}
 < {"body":{"exceptionBreakpointFilters":[{"default":true,"filter":"undefined",
     "label":"Undefined opcodes"},{"default":false,"filter":"halt","label":"HLT"}],
-    "supportsBreakpointLocationsRequest":true,"supportsConditionalBreakpoints":true,
+    "supportsBreakpointLocationsRequest":true,"supportsCompletionsRequest":true,
+    "supportsConditionalBreakpoints":true,
     "supportsConfigurationDoneRequest":true,"supportsDataBreakpointBytes":true,
-    "supportsDataBreakpoints":true,"supportsDisassembleRequest":true,
+    "supportsDataBreakpoints":true,"supportsDelayedStackTraceLoading":true,
+    "supportsDisassembleRequest":true,
     "supportsEvaluateForHovers":true,"supportsExceptionInfoRequest":true,
     "supportsFunctionBreakpoints":true,"supportsGotoTargetsRequest":true,
     "supportsHitConditionalBreakpoints":true,"supportsInstructionBreakpoints":true,
     "supportsLoadedSourcesRequest":true,"supportsLogPoints":true,
-    "supportsReadMemoryRequest":true,"supportsRestartRequest":true,"supportsSetVariable":true,
+    "supportsReadMemoryRequest":true,"supportsRestartRequest":true,"supportsSetExpression":true,
+    "supportsSetVariable":true,
     "supportsStepBack":true,"supportsSteppingGranularity":true,"supportsTerminateRequest":true,
     "supportsWriteMemoryRequest":true},"command":"initialize","request_seq":1,"seq":1,"success":true,
     "type":"response"}
@@ -110,17 +119,17 @@ const BACK: &str = r#"
 < {"body":{},"command":"stepBack","request_seq":7,"seq":16,"success":true,"type":"response"}
 < {"body":{"allThreadsStopped":true,"reason":"step","threadId":1},"event":"stopped","seq":17,"type":"event"}
 > {"seq":8,"type":"request","command":"evaluate","arguments":{"expression":"PC"}}
-< {"body":{"result":"00104H","variablesReference":0},"command":"evaluate","request_seq":8,"seq":18,
-    "success":true,"type":"response"}
+< {"body":{"memoryReference":"0x0104","result":"00104H","variablesReference":0},"command":"evaluate",
+    "request_seq":8,"seq":18,"success":true,"type":"response"}
 > {"seq":9,"type":"request","command":"evaluate","arguments":{"expression":"A"}}
-< {"body":{"result":"041H","variablesReference":0},"command":"evaluate","request_seq":9,"seq":19,
-    "success":true,"type":"response"}
+< {"body":{"result":"041H","variablesReference":0},"command":"evaluate",
+    "request_seq":9,"seq":19,"success":true,"type":"response"}
 > {"seq":10,"type":"request","command":"reverseContinue","arguments":{"threadId":1}}
 < {"body":{},"command":"reverseContinue","request_seq":10,"seq":20,"success":true,"type":"response"}
 < {"body":{"allThreadsStopped":true,"reason":"entry","threadId":1},"event":"stopped","seq":21,"type":"event"}
 > {"seq":11,"type":"request","command":"evaluate","arguments":{"expression":"PC"}}
-< {"body":{"result":"00100H","variablesReference":0},"command":"evaluate","request_seq":11,"seq":22,
-    "success":true,"type":"response"}
+< {"body":{"memoryReference":"0x0100","result":"00100H","variablesReference":0},"command":"evaluate",
+    "request_seq":11,"seq":22,"success":true,"type":"response"}
 > {"seq":12,"type":"request","command":"evaluate","arguments":{"expression":"back","context":"repl"}}
 < {"command":"evaluate","message":"the run begins here","request_seq":12,"seq":23,"success":false,
     "type":"response"}
@@ -144,14 +153,17 @@ const SEARCH: &str = r#"
 > {"seq":2,"type":"request","command":"initialize"}
 < {"body":{"exceptionBreakpointFilters":[{"default":true,"filter":"undefined",
     "label":"Undefined opcodes"},{"default":false,"filter":"halt","label":"HLT"}],
-    "supportsBreakpointLocationsRequest":true,"supportsConditionalBreakpoints":true,
+    "supportsBreakpointLocationsRequest":true,"supportsCompletionsRequest":true,
+    "supportsConditionalBreakpoints":true,
     "supportsConfigurationDoneRequest":true,"supportsDataBreakpointBytes":true,
-    "supportsDataBreakpoints":true,"supportsDisassembleRequest":true,
+    "supportsDataBreakpoints":true,"supportsDelayedStackTraceLoading":true,
+    "supportsDisassembleRequest":true,
     "supportsEvaluateForHovers":true,"supportsExceptionInfoRequest":true,
     "supportsFunctionBreakpoints":true,"supportsGotoTargetsRequest":true,
     "supportsHitConditionalBreakpoints":true,"supportsInstructionBreakpoints":true,
     "supportsLoadedSourcesRequest":true,"supportsLogPoints":true,
-    "supportsReadMemoryRequest":true,"supportsRestartRequest":true,"supportsSetVariable":true,
+    "supportsReadMemoryRequest":true,"supportsRestartRequest":true,"supportsSetExpression":true,
+    "supportsSetVariable":true,
     "supportsStepBack":true,"supportsSteppingGranularity":true,"supportsTerminateRequest":true,
     "supportsWriteMemoryRequest":true},"command":"initialize","request_seq":2,"seq":2,"success":true,
     "type":"response"}
@@ -170,8 +182,8 @@ const SEARCH: &str = r#"
 > {"seq":7,"type":"request","command":"reverseContinue","arguments":{"threadId":1}}
 < {"body":{},"command":"reverseContinue","request_seq":7,"seq":9,"success":true,"type":"response"}
 > {"seq":8,"type":"request","command":"evaluate","arguments":{"expression":"PC","context":"watch"}}
-< {"body":{"result":"00100H","variablesReference":0},"command":"evaluate","request_seq":8,"seq":10,
-    "success":true,"type":"response"}
+< {"body":{"memoryReference":"0x0100","result":"00100H","variablesReference":0},"command":"evaluate",
+    "request_seq":8,"seq":10,"success":true,"type":"response"}
 > {"seq":9,"type":"request","command":"next","arguments":{"threadId":1}}
 < {"command":"next","message":"the run is going back: pause it first","request_seq":9,"seq":11,
     "success":false,"type":"response"}
@@ -197,14 +209,17 @@ const PATHS: &str = r#"
 > {"seq":1,"type":"request","command":"initialize"}
 < {"body":{"exceptionBreakpointFilters":[{"default":true,"filter":"undefined",
     "label":"Undefined opcodes"},{"default":false,"filter":"halt","label":"HLT"}],
-    "supportsBreakpointLocationsRequest":true,"supportsConditionalBreakpoints":true,
+    "supportsBreakpointLocationsRequest":true,"supportsCompletionsRequest":true,
+    "supportsConditionalBreakpoints":true,
     "supportsConfigurationDoneRequest":true,"supportsDataBreakpointBytes":true,
-    "supportsDataBreakpoints":true,"supportsDisassembleRequest":true,
+    "supportsDataBreakpoints":true,"supportsDelayedStackTraceLoading":true,
+    "supportsDisassembleRequest":true,
     "supportsEvaluateForHovers":true,"supportsExceptionInfoRequest":true,
     "supportsFunctionBreakpoints":true,"supportsGotoTargetsRequest":true,
     "supportsHitConditionalBreakpoints":true,"supportsInstructionBreakpoints":true,
     "supportsLoadedSourcesRequest":true,"supportsLogPoints":true,
-    "supportsReadMemoryRequest":true,"supportsRestartRequest":true,"supportsSetVariable":true,
+    "supportsReadMemoryRequest":true,"supportsRestartRequest":true,"supportsSetExpression":true,
+    "supportsSetVariable":true,
     "supportsStepBack":true,"supportsSteppingGranularity":true,"supportsTerminateRequest":true,
     "supportsWriteMemoryRequest":true},"command":"initialize","request_seq":1,"seq":1,"success":true,
     "type":"response"}
@@ -225,8 +240,8 @@ const PATHS: &str = r#"
 < {"body":{"allThreadsStopped":true,"hitBreakpointIds":[257],"reason":"breakpoint","threadId":1},
     "event":"stopped","seq":8,"type":"event"}
 > {"seq":6,"type":"request","command":"evaluate","arguments":{"expression":"PC"}}
-< {"body":{"result":"00105H","variablesReference":0},"command":"evaluate","request_seq":6,"seq":9,
-    "success":true,"type":"response"}
+< {"body":{"memoryReference":"0x0105","result":"00105H","variablesReference":0},"command":"evaluate",
+    "request_seq":6,"seq":9,"success":true,"type":"response"}
 > {"seq":7,"type":"request","command":"breakpointLocations",
     "arguments":{"source":{"path":"letters.asm"},"line":4}}
 < {"body":{"breakpoints":[{"line":4}]},"command":"breakpointLocations","request_seq":7,"seq":10,

@@ -2,4 +2,3 @@ pub mod Argument
 pub mod Answer
 pub mod Table
 pub mod Reading
-pub mod Paths

@@ -1,10 +1,30 @@
 -- The commands of editors (Debug Adapter Protocol, "Requests"): how each is spelled, and what it asks for by
 -- its arguments.
-use Rattle.std.specs.Prelude.{ℕ, false, not, List, [], ◌∷◌, Option, Result, Ok, Err, find, codes}
+use Rattle.std.specs.Prelude.{
+  ℕ,
+  Bool,
+  false,
+  not,
+  if◌then◌else◌,
+  List,
+  [],
+  ◌∷◌,
+  Option,
+  Some,
+  None,
+  is_some,
+  option_map,
+  unwrap_or,
+  Result,
+  Ok,
+  Err,
+  find,
+  codes,
+}
 use Rattle.std.specs.Str.{bytes_eq}
 use Rattle.base_text.specs.Bytes.{Text}
 use Rattle.serde_json.specs.Data.{Data}
-use Rattle.serde_json.specs.Find.{as_str, as_bool}
+use Rattle.serde_json.specs.Find.{get, as_str, as_bool, as_null}
 use Rattle.lab_shown.specs.declared.step.Granularity.TheVariants.{Line}
 use Rattle.dap_talk.specs.Argument.{text_at, whole_between}
 use Rattle.dap_editor.specs.declared.name.EditorName.{EditorName}
@@ -12,8 +32,12 @@ use Rattle.dap_editor.specs.declared.name.EditorName.TheVariants as name
 use Rattle.dap_editor.specs.declared.request.SignedOffset.{SignedOffset}
 use Rattle.dap_editor.specs.declared.request.SignedOffset.TheVariants.{Forward}
 use Rattle.dap_editor.specs.declared.request.EvaluateContext.TheVariants.{Other}
+use Rattle.dap_editor.specs.declared.request.SupportedEvents.{SupportedEvents}
+use Rattle.dap_editor.specs.declared.request.Launch.{Launch}
+use Rattle.dap_editor.specs.declared.request.VariablesCommand.{VariablesCommand}
 use Rattle.dap_editor.specs.declared.request.EditorCommand.{EditorCommand}
 use Rattle.dap_editor.specs.declared.request.EditorCommand.TheVariants as command
+use Rattle.dap_editor.specs.declared.request.VariablesCommand.TheVariants as variables
 use Rattle.dap_editor.specs.Argument.{required_value, value_or, address, shift, context, base64}
 use Rattle.dap_editor.specs.Argument.{granularity, filters, no_filters}
 use Rattle.dap_editor.specs.Argument.{lines, functions, data_breakpoints, instructions}
@@ -40,6 +64,11 @@ spelling_of name.StepBack = codes "stepBack"
 spelling_of name.ReverseContinue = codes "reverseContinue"
 spelling_of name.GotoTargets = codes "gotoTargets"
 spelling_of name.Goto = codes "goto"
+spelling_of name.Scopes = codes "scopes"
+spelling_of name.Variables = codes "variables"
+spelling_of name.SetVariable = codes "setVariable"
+spelling_of name.SetExpression = codes "setExpression"
+spelling_of name.Completions = codes "completions"
 
 -- ---- what each asks for
 
@@ -55,6 +84,9 @@ byte = whole_between 0 255
 abbrev pub word : Data → Option ℕ
 word = whole_between 0 65535
 
+abbrev pub some_word : Data → Option (Option ℕ)
+some_word d = option_map Some (word d)
+
 abbrev pub any_number : Data → Option ℕ
 any_number = whole_between 0 4294967295
 
@@ -65,13 +97,14 @@ offset = value_or (codes "offset") (shift 4294967295) (Forward 0)
 abbrev pub memory_reference : Data → Result ℕ Text
 memory_reference = required_value (codes "memoryReference") address
 
-abbrev pub initialize_asked : Data → Result EditorCommand Text
+abbrev pub initialize_asked : Data → Result SupportedEvents Text
 initialize_asked d =
     value_or (codes "supportsInvalidatedEvent") as_bool false d then_with λ invalidated.
     value_or (codes "supportsMemoryEvent") as_bool false d then_with λ memory.
-    Ok (command.Initialize (record { invalidated = invalidated; memory = memory }))
+    Ok (record { invalidated = invalidated; memory = memory })
 
-abbrev pub launch_asked : Data → Result EditorCommand Text
+-- the bytes of a program begin at 0 if nothing else is wanted
+abbrev pub launch_asked : Data → Result Launch Text
 launch_asked d =
     required_value (codes "program") as_str d then_with λ program.
     value_or (codes "stopOnEntry") as_bool false d then_with λ stops_on_entry.
@@ -81,7 +114,9 @@ launch_asked d =
     value_or (codes "switches") byte 0 d then_with λ switches.
     value_or (codes "input") as_str [] d then_with λ input.
     value_or (codes "watchCommands") as_bool false d then_with λ has_watch_commands.
-    Ok (command.Launch (record {
+    value_or (codes "origin") some_word None d then_with λ origin.
+    value_or (codes "start") some_word None d then_with λ start.
+    Ok (record {
       program = program;
       canonical = program;
       stops_on_entry = stops_on_entry;
@@ -91,7 +126,27 @@ launch_asked d =
       switches = switches;
       input = input;
       has_watch_commands = has_watch_commands;
-    }))
+      origin = unwrap_or origin 0;
+      start = start;
+    })
+
+-- not absent, and not `null`
+abbrev pub is_something : Option Data → Bool
+is_something None = false
+is_something (Some d) = not (is_some (as_null d))
+
+abbrev pub has_arguments : Data → Bool
+has_arguments d = is_something (get (codes "arguments") d)
+
+abbrev pub launch_with : Option Data → Result (Option Launch) Text
+launch_with None = Ok None
+launch_with (Some d) =
+    if has_arguments d then (launch_asked d then_with λ launch. Ok (Some launch)) else Ok None
+
+-- The arguments of a restart have those of a launch at their key `arguments`, and so are read as a launch's
+-- request is.
+abbrev pub restart_asked : Data → Result (Option Launch) Text
+restart_asked d = launch_with (get (codes "arguments") d)
 
 -- the path of a source
 abbrev pub source : Data → Result Text Text
@@ -160,11 +215,55 @@ goto_targets_asked d =
     required_value (codes "line") any_number d then_with λ line.
     Ok (command.GotoTargets path line)
 
+abbrev pub scopes_asked : Data → Result VariablesCommand Text
+scopes_asked d =
+    required_value (codes "frameId") any_number d then_with λ frame.
+    Ok (variables.Scopes frame)
+
+abbrev pub scope : Data → Result ℕ Text
+scope = required_value (codes "variablesReference") any_number
+
+abbrev pub new_value : Data → Result Text Text
+new_value = required_value (codes "value") as_str
+
+-- from the first on, and as many as are shown by default, if nothing else is wanted
+abbrev pub variables_asked : Data → Result VariablesCommand Text
+variables_asked d =
+    scope d then_with λ its_scope.
+    value_or (codes "start") any_number 0 d then_with λ start.
+    value_or (codes "count") any_number 0 d then_with λ count.
+    Ok (variables.Variables its_scope start count)
+
+abbrev pub set_variable_asked : Data → Result VariablesCommand Text
+set_variable_asked d =
+    scope d then_with λ its_scope.
+    required_value (codes "name") as_str d then_with λ text.
+    new_value d then_with λ value.
+    Ok (variables.SetVariable its_scope text value)
+
+abbrev pub set_expression_asked : Data → Result VariablesCommand Text
+set_expression_asked d =
+    required_value (codes "expression") as_str d then_with λ expression.
+    new_value d then_with λ value.
+    Ok (variables.SetExpression expression value)
+
+abbrev pub completions_asked : Data → Result VariablesCommand Text
+completions_asked d =
+    required_value (codes "text") as_str d then_with λ text.
+    required_value (codes "column") any_number d then_with λ column.
+    Ok (variables.Completions text column)
+
 -- the command that a request makes with this name, or the name of its first bad argument
 abbrev pub command_asked : EditorName → Data → Result EditorCommand Text
-command_asked name.Initialize d = initialize_asked d
-command_asked name.Launch d = launch_asked d
-command_asked name.Restart d = Ok command.Restart
+command_asked name.Initialize d =
+    initialize_asked d then_with λ supported.
+    Ok (command.Initialize supported)
+command_asked name.Launch d =
+    launch_asked d then_with λ launch.
+    Ok (command.Launch launch)
+command_asked name.Restart d =
+    restart_asked d then_with λ launch.
+    Ok (command.Restart launch)
 command_asked name.Terminate d = Ok command.Terminate
 command_asked name.SetBreakpoints d = set_breakpoints_asked d
 command_asked name.SetFunctionBreakpoints d =
@@ -195,6 +294,21 @@ command_asked name.GotoTargets d = goto_targets_asked d
 command_asked name.Goto d =
     required_value (codes "targetId") word d then_with λ target.
     Ok (command.Goto target)
+command_asked name.Scopes d =
+    scopes_asked d then_with λ its_command.
+    Ok (command.Variables its_command)
+command_asked name.Variables d =
+    variables_asked d then_with λ its_command.
+    Ok (command.Variables its_command)
+command_asked name.SetVariable d =
+    set_variable_asked d then_with λ its_command.
+    Ok (command.Variables its_command)
+command_asked name.SetExpression d =
+    set_expression_asked d then_with λ its_command.
+    Ok (command.Variables its_command)
+command_asked name.Completions d =
+    completions_asked d then_with λ its_command.
+    Ok (command.Variables its_command)
 
 -- ---- the names
 
@@ -204,7 +318,8 @@ every_name =
     name.SetFunctionBreakpoints ∷ name.SetExceptionBreakpoints ∷ name.DataBreakpointInfo ∷
     name.SetDataBreakpoints ∷ name.SetInstructionBreakpoints ∷ name.BreakpointLocations ∷
     name.ExceptionInfo ∷ name.Evaluate ∷ name.ReadMemory ∷ name.WriteMemory ∷ name.Disassemble ∷
-    name.LoadedSources ∷ name.StepBack ∷ name.ReverseContinue ∷ name.GotoTargets ∷ name.Goto ∷ []
+    name.LoadedSources ∷ name.StepBack ∷ name.ReverseContinue ∷ name.GotoTargets ∷ name.Goto ∷
+    name.Scopes ∷ name.Variables ∷ name.SetVariable ∷ name.SetExpression ∷ name.Completions ∷ []
 
 -- the first of these names that is spelled like the text
 abbrev pub first_named : List EditorName → Text → Option EditorName

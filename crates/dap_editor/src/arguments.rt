@@ -1,5 +1,5 @@
 //! The arguments of an editor's request, one function for each type. Each names an argument that is bad.
-ghost use Rattle.std.specs.Prelude.{◌≡◌, ◌≤◌, IfOk, IfSome, [], false, Some, length, option_map};
+ghost use Rattle.std.specs.Prelude.{◌≡◌, ◌≤◌, IfOk, IfSome, [], false, Some, None, length, option_map};
 ghost use Rattle.std.specs.Prelude.{option_and_then, ok_or, codes};
 ghost use Rattle.serde_json.specs.Find.{get, as_str, as_bool, as_array};
 ghost use Rattle.serde_json.specs.View.{view, items_view};
@@ -17,7 +17,7 @@ ghost use Rattle.dap_editor.specs.Argument.{offset_in, place_of, instruction_of}
 ghost use Rattle.dap_editor.specs.Argument.{function_of, all_of};
 ghost use Rattle.dap_editor.specs.Argument.{breakpoints, lines, functions, data_breakpoints, instructions};
 ghost use Rattle.dap_editor.specs.Argument.{bytes_of, base64};
-ghost use Rattle.dap_editor.specs.Table.{byte, word, any_number, offset, memory_reference};
+ghost use Rattle.dap_editor.specs.Table.{byte, word, some_word, any_number, offset, memory_reference};
 
 use crate::request::{
     DataBreakpoint, EvaluateContext, ExceptionFilters, FunctionBreakpoint, InstructionBreakpoint,
@@ -152,6 +152,22 @@ pub fn word_at(request: &Value, key: &'static str) -> Result<u16, ArgumentFault>
     word_of(required_value(request, key)?, 0, 65535).ok_or(ArgumentFault::Argument(key))
 }
 
+fn some_word(value: &Value) -> Option<Option<u16>>
+    ensures { result ≡ some_word (view value.now) }
+{
+    Some(Some(word_of(value, 0, 65535)?))
+}
+
+/// A whole number of 16 bits, if it isn't absent.
+pub fn word_or_none(request: &Value, key: &'static str) -> Result<Option<u16>, ArgumentFault>
+    ensures { Answers (value_or key.now some_word None (view request.now)) result }
+{
+    match optional(request, key)? {
+        None => Ok(None),
+        Some(value) => some_word(value).ok_or(ArgumentFault::Argument(key)),
+    }
+}
+
 /// A required whole number from 1 to 1,024.
 pub fn count_at(request: &Value, key: &'static str) -> Result<u16, ArgumentFault>
     ensures value { Answers (required_value key.now (whole_between 1 1024) (view request.now)) result }
@@ -277,18 +293,15 @@ fn filters_of(value: &Value) -> Option<ExceptionFilters>
 }
 
 /// The filters of ends, and none if they are absent.
-pub fn filters_or_none(
-    request: &Value,
-    key: &'static str,
-) -> Result<ExceptionFilters, ArgumentFault>
-    ensures { Answers (value_or key.now filters no_filters (view request.now)) result }
+pub fn filters_or_none(request: &Value) -> Result<ExceptionFilters, ArgumentFault>
+    ensures { Answers (value_or (codes "filters") filters no_filters (view request.now)) result }
 {
-    match optional(request, key)? {
+    match optional(request, "filters")? {
         None => Ok(ExceptionFilters {
             undefined: false,
             halt: false,
         }),
-        Some(value) => filters_of(value).ok_or(ArgumentFault::Argument(key)),
+        Some(value) => filters_of(value).ok_or(ArgumentFault::Argument("filters")),
     }
 }
 

@@ -6,6 +6,5 @@
 mod arguments;
 pub mod laws;
 mod name;
-pub mod paths;
 pub mod reading;
 pub mod request;

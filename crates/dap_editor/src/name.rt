@@ -26,9 +26,14 @@ pub enum EditorName {
     ReverseContinue,
     GotoTargets,
     Goto,
+    Scopes,
+    Variables,
+    SetVariable,
+    SetExpression,
+    Completions,
 }
 
-const EVERY_NAME: [EditorName; 21] = [
+const EVERY_NAME: [EditorName; 26] = [
     EditorName::Initialize,
     EditorName::Launch,
     EditorName::Restart,
@@ -50,6 +55,11 @@ const EVERY_NAME: [EditorName; 21] = [
     EditorName::ReverseContinue,
     EditorName::GotoTargets,
     EditorName::Goto,
+    EditorName::Scopes,
+    EditorName::Variables,
+    EditorName::SetVariable,
+    EditorName::SetExpression,
+    EditorName::Completions,
 ];
 
 impl EditorName {
@@ -81,6 +91,11 @@ impl EditorName {
             EditorName::ReverseContinue => "reverseContinue",
             EditorName::GotoTargets => "gotoTargets",
             EditorName::Goto => "goto",
+            EditorName::Scopes => "scopes",
+            EditorName::Variables => "variables",
+            EditorName::SetVariable => "setVariable",
+            EditorName::SetExpression => "setExpression",
+            EditorName::Completions => "completions",
         }
     }
 

@@ -7,7 +7,9 @@ ghost use Rattle.dap_editor.specs.Table.{command_named, command_asked, launch_as
 ghost use Rattle.dap_editor.specs.Table.{initialize_asked, read_memory_asked, goto_targets_asked};
 ghost use Rattle.dap_editor.specs.Table.{write_memory_asked, disassemble_asked};
 ghost use Rattle.dap_editor.specs.Table.{set_breakpoints_asked, breakpoint_locations_asked};
-ghost use Rattle.dap_editor.specs.Table.{data_breakpoint_info_asked};
+ghost use Rattle.dap_editor.specs.Table.{data_breakpoint_info_asked, scopes_asked, variables_asked};
+ghost use Rattle.dap_editor.specs.Table.{set_variable_asked, set_expression_asked, completions_asked};
+ghost use Rattle.dap_editor.specs.Table.{has_arguments, restart_asked};
 ghost use Rattle.dap_editor.specs.Reading.{has_null_arguments, bare_request, asked_of_board, asked_of_editor};
 ghost use Rattle.dap_editor.specs.Reading.{asked_by, unreadable, editor_request, IsCommandBounded, IsBounded};
 
@@ -15,11 +17,12 @@ use crate::arguments::{
     ArgumentFault, byte_or_0, bytes_at, context_or_other, count_at, data_breakpoints_at,
     filters_or_none, functions_at, granularity_or_line, instructions_at, lines_or_none,
     memory_reference, number_at, number_or, offset, path_at, shift_or_0, text_at, text_or_empty,
-    truth_or_false, word_at,
+    truth_or_false, word_at, word_or_none,
 };
 use crate::name::EditorName;
 use crate::request::{
     DataQuery, EditorCommand, EditorRequest, Launch, RequestContent, RequestFault, SupportedEvents,
+    VariablesCommand,
 };
 use base_text::text::Text;
 use dap_answers::object::Object;
@@ -28,21 +31,19 @@ use dap_talk::reading::{envelope_of, read_request};
 use serde_json::Value;
 use std::alloc::{AllocError, Global};
 
-fn initialize(request: &Value) -> Result<EditorCommand, ArgumentFault>
-    ensures answer { Answers (initialize_asked (view request.now)) result }
-    ensures bounded { IfOk result (λ c. IsCommandBounded c) }
+fn initialize(request: &Value) -> Result<SupportedEvents, ArgumentFault>
+    ensures { Answers (initialize_asked (view request.now)) result }
 {
     let invalidated = truth_or_false(request, "supportsInvalidatedEvent")?;
     let memory = truth_or_false(request, "supportsMemoryEvent")?;
-    Ok(EditorCommand::Initialize(SupportedEvents {
+    Ok(SupportedEvents {
         invalidated,
         memory,
-    }))
+    })
 }
 
-fn launch(alloc: Global, request: &Value) -> Result<EditorCommand, ArgumentFault>
-    ensures answer { Answers (launch_asked (view request.now)) result }
-    ensures bounded { IfOk result (λ c. IsCommandBounded c) }
+fn launch(alloc: Global, request: &Value) -> Result<Launch, ArgumentFault>
+    ensures { Answers (launch_asked (view request.now)) result }
 {
     let program = text_at(request, "program")?;
     let stops_on_entry = truth_or_false(request, "stopOnEntry")?;
@@ -52,10 +53,12 @@ fn launch(alloc: Global, request: &Value) -> Result<EditorCommand, ArgumentFault
     let switches = byte_or_0(request, "switches")?;
     let input = text_or_empty(request, "input")?;
     let has_watch_commands = truth_or_false(request, "watchCommands")?;
+    let origin = word_or_none(request, "origin")?;
+    let start = word_or_none(request, "start")?;
     let canonical = Text::copy_of(alloc, program)?;
     let program = Text::copy_of(alloc, program)?;
     let input = Text::copy_of(alloc, input)?;
-    Ok(EditorCommand::Launch(Launch {
+    Ok(Launch {
         program,
         canonical,
         stops_on_entry,
@@ -65,7 +68,27 @@ fn launch(alloc: Global, request: &Value) -> Result<EditorCommand, ArgumentFault
         switches,
         input,
         has_watch_commands,
-    }))
+        origin: origin.unwrap_or(0),
+        start,
+    })
+}
+
+fn has_arguments(request: &Value) -> bool
+    ensures { result ≡ has_arguments (view request.now) }
+{
+    match request.get("arguments") {
+        Some(arguments) => !arguments.is_null(),
+        None => false,
+    }
+}
+
+fn restart(alloc: Global, request: &Value) -> Result<Option<Launch>, ArgumentFault>
+    ensures { Answers (restart_asked (view request.now)) result }
+{
+    match request.get("arguments") {
+        Some(own) if has_arguments(own) => Ok(Some(launch(alloc, own)?)),
+        _ => Ok(None),
+    }
 }
 
 fn set_breakpoints(alloc: Global, request: &Value) -> Result<EditorCommand, ArgumentFault>
@@ -84,13 +107,6 @@ fn set_function_breakpoints(alloc: Global, request: &Value) -> Result<EditorComm
 {
     let functions = functions_at(alloc, request, "breakpoints")?;
     Ok(EditorCommand::SetFunctionBreakpoints(functions))
-}
-
-fn set_exception_breakpoints(request: &Value) -> Result<EditorCommand, ArgumentFault>
-    ensures answer { Answers (command_asked EditorName.SetExceptionBreakpoints (view request.now)) result }
-    ensures bounded { IfOk result (λ c. IsCommandBounded c) }
-{
-    Ok(EditorCommand::SetExceptionBreakpoints(filters_or_none(request, "filters")?))
 }
 
 fn data_breakpoint_info(alloc: Global, request: &Value) -> Result<EditorCommand, ArgumentFault>
@@ -140,13 +156,6 @@ fn breakpoint_locations(alloc: Global, request: &Value) -> Result<EditorCommand,
     Ok(EditorCommand::BreakpointLocations { path, first, last })
 }
 
-fn step_back(request: &Value) -> Result<EditorCommand, ArgumentFault>
-    ensures answer { Answers (command_asked EditorName.StepBack (view request.now)) result }
-    ensures bounded { IfOk result (λ c. IsCommandBounded c) }
-{
-    Ok(EditorCommand::StepBack(granularity_or_line(request, "granularity")?))
-}
-
 fn goto_targets(alloc: Global, request: &Value) -> Result<EditorCommand, ArgumentFault>
     ensures answer { Answers (goto_targets_asked (view request.now)) result }
     ensures bounded { IfOk result (λ c. IsCommandBounded c) }
@@ -155,14 +164,6 @@ fn goto_targets(alloc: Global, request: &Value) -> Result<EditorCommand, Argumen
     let line = number_at(request, "line")?;
     let path = Text::copy_of(alloc, path)?;
     Ok(EditorCommand::GotoTargets { path, line })
-}
-
-fn goto(request: &Value) -> Result<EditorCommand, ArgumentFault>
-    ensures answer { Answers (command_asked EditorName.Goto (view request.now)) result }
-    ensures bounded { IfOk result (λ c. IsCommandBounded c) }
-{
-    let target = word_at(request, "targetId")?;
-    Ok(EditorCommand::Goto { target })
 }
 
 fn evaluate(alloc: Global, request: &Value) -> Result<EditorCommand, ArgumentFault>
@@ -222,6 +223,60 @@ fn disassemble(request: &Value) -> Result<EditorCommand, ArgumentFault>
     })
 }
 
+fn scopes(request: &Value) -> Result<VariablesCommand, ArgumentFault>
+    ensures { Answers (scopes_asked (view request.now)) result }
+{
+    let frame = number_at(request, "frameId")?;
+    Ok(VariablesCommand::Scopes { frame })
+}
+
+fn variables(request: &Value) -> Result<VariablesCommand, ArgumentFault>
+    ensures { Answers (variables_asked (view request.now)) result }
+{
+    let reference = number_at(request, "variablesReference")?;
+    let start = number_or(request, "start", 0)?;
+    let count = number_or(request, "count", 0)?;
+    Ok(VariablesCommand::Variables {
+        reference,
+        start,
+        count,
+    })
+}
+
+fn set_variable(alloc: Global, request: &Value) -> Result<VariablesCommand, ArgumentFault>
+    ensures { Answers (set_variable_asked (view request.now)) result }
+{
+    let reference = number_at(request, "variablesReference")?;
+    let name = text_at(request, "name")?;
+    let value = text_at(request, "value")?;
+    let name = Text::copy_of(alloc, name)?;
+    let value = Text::copy_of(alloc, value)?;
+    Ok(VariablesCommand::SetVariable {
+        reference,
+        name,
+        value,
+    })
+}
+
+fn set_expression(alloc: Global, request: &Value) -> Result<VariablesCommand, ArgumentFault>
+    ensures { Answers (set_expression_asked (view request.now)) result }
+{
+    let expression = text_at(request, "expression")?;
+    let value = text_at(request, "value")?;
+    let expression = Text::copy_of(alloc, expression)?;
+    let value = Text::copy_of(alloc, value)?;
+    Ok(VariablesCommand::SetExpression { expression, value })
+}
+
+fn completions(alloc: Global, request: &Value) -> Result<VariablesCommand, ArgumentFault>
+    ensures { Answers (completions_asked (view request.now)) result }
+{
+    let text = text_at(request, "text")?;
+    let column = number_at(request, "column")?;
+    let text = Text::copy_of(alloc, text)?;
+    Ok(VariablesCommand::Completions { text, column })
+}
+
 fn read_command(
     alloc: Global,
     name: EditorName,
@@ -231,13 +286,15 @@ fn read_command(
     ensures bounded { IfOk result (λ c. IsCommandBounded c) }
 {
     match name {
-        EditorName::Initialize => initialize(request),
-        EditorName::Launch => launch(alloc, request),
-        EditorName::Restart => Ok(EditorCommand::Restart),
+        EditorName::Initialize => Ok(EditorCommand::Initialize(initialize(request)?)),
+        EditorName::Launch => Ok(EditorCommand::Launch(launch(alloc, request)?)),
+        EditorName::Restart => Ok(EditorCommand::Restart(restart(alloc, request)?)),
         EditorName::Terminate => Ok(EditorCommand::Terminate),
         EditorName::SetBreakpoints => set_breakpoints(alloc, request),
         EditorName::SetFunctionBreakpoints => set_function_breakpoints(alloc, request),
-        EditorName::SetExceptionBreakpoints => set_exception_breakpoints(request),
+        EditorName::SetExceptionBreakpoints => {
+            Ok(EditorCommand::SetExceptionBreakpoints(filters_or_none(request)?))
+        }
         EditorName::DataBreakpointInfo => data_breakpoint_info(alloc, request),
         EditorName::SetDataBreakpoints => set_data_breakpoints(alloc, request),
         EditorName::SetInstructionBreakpoints => set_instruction_breakpoints(alloc, request),
@@ -248,10 +305,19 @@ fn read_command(
         EditorName::WriteMemory => write_memory(alloc, request),
         EditorName::Disassemble => disassemble(request),
         EditorName::LoadedSources => Ok(EditorCommand::LoadedSources),
-        EditorName::StepBack => step_back(request),
+        EditorName::StepBack => {
+            Ok(EditorCommand::StepBack(granularity_or_line(request, "granularity")?))
+        }
         EditorName::ReverseContinue => Ok(EditorCommand::ReverseContinue),
         EditorName::GotoTargets => goto_targets(alloc, request),
-        EditorName::Goto => goto(request),
+        EditorName::Goto => Ok(EditorCommand::Goto {
+            target: word_at(request, "targetId")?,
+        }),
+        EditorName::Scopes => Ok(EditorCommand::Variables(scopes(request)?)),
+        EditorName::Variables => Ok(EditorCommand::Variables(variables(request)?)),
+        EditorName::SetVariable => Ok(EditorCommand::Variables(set_variable(alloc, request)?)),
+        EditorName::SetExpression => Ok(EditorCommand::Variables(set_expression(alloc, request)?)),
+        EditorName::Completions => Ok(EditorCommand::Variables(completions(alloc, request)?)),
     }
 }
 

@@ -66,6 +66,10 @@ pub struct Launch {
     /// Whether the prompt's words act in the context `watch` too, for editors whose console evaluates so, as
     /// Kate's.
     pub has_watch_commands: bool,
+    /// Where the bytes of a program that is bytes begin.
+    pub origin: u16,
+    /// Where a program without source starts, whatever its file says.
+    pub start: Option<u16>,
 }
 
 /// A breakpoint on a line of a source.
@@ -130,12 +134,43 @@ pub struct ExceptionFilters {
     pub halt: bool,
 }
 
+/// What an editor shows of variables and expressions, and how it changes them.
+#[derive(Drop)]
+pub enum VariablesCommand {
+    /// Of a frame.
+    Scopes {
+        frame: u32,
+    },
+    /// `count` variables of a scope, from the one with the index `start` on. If `count` is 0, those that the
+    /// scope shows by default.
+    Variables {
+        reference: u32,
+        start: u32,
+        count: u32,
+    },
+    SetVariable {
+        reference: u32,
+        name: Text,
+        value: Text,
+    },
+    SetExpression {
+        expression: Text,
+        value: Text,
+    },
+    /// Of the word before a column of a text, from 1.
+    Completions {
+        text: Text,
+        column: u32,
+    },
+}
+
 /// A command that only editors have, or that has more arguments for them than for the kernel.
 #[derive(Drop)]
 pub enum EditorCommand {
     Initialize(SupportedEvents),
     Launch(Launch),
-    Restart,
+    /// With the launch as it is configured now, if that has changed.
+    Restart(Option<Launch>),
     Terminate,
     /// The breakpoints of a source, at most 256, in the order of the request.
     SetBreakpoints {
@@ -193,6 +228,7 @@ pub enum EditorCommand {
     Goto {
         target: u16,
     },
+    Variables(VariablesCommand),
 }
 
 /// Why a request can't be carried out, whatever the program is.

@@ -7,6 +7,10 @@
 #[cfg(test)]
 mod checks;
 #[cfg(test)]
+mod images;
+#[cfg(test)]
 mod messages;
 #[cfg(test)]
 mod requests;
+#[cfg(test)]
+mod variables;

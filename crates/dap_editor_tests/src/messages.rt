@@ -5,9 +5,10 @@ use base_text::text::Text;
 use dap_answers::answer::{Body, StopReason};
 use dap_messages::json::message_json;
 use dap_messages::message::{
-    BreakpointKind, BreakpointNote, BreakpointOptions, BreakpointStop, DataInfo, EditorBody,
-    EditorEvent, EditorOutcome, EditorResponse, EditorStop, GotoTarget, Message, OutputCategory,
-    PlacedBreakpoint, SourcePlace, UndefinedOpcode,
+    BreakpointKind, BreakpointNote, BreakpointOptions, BreakpointStop, Completion, CompletionKind,
+    DataInfo, EditorBody, EditorEvent, EditorOutcome, EditorResponse, EditorStop, EditorVariable,
+    GotoTarget, Message, OutputCategory, PlacedBreakpoint, ShownValue, SourcePlace,
+    UndefinedOpcode,
 };
 use lab_shown::place::{Place, PlaceChange};
 use std::alloc::{AllocError, AllocGlobal, Global};
@@ -44,7 +45,8 @@ fn expect_message(
     drop(told);
 }
 
-fn text(rt: &(impl Abort + AllocGlobal), text: &str) -> Text {
+/// A text, for which there must be memory.
+pub fn text(rt: &(impl Abort + AllocGlobal), text: &str) -> Text {
     made(rt, Text::copy_of(rt.alloc(), text))
 }
 
@@ -64,8 +66,8 @@ fn response(rt: &(impl Abort + AllocGlobal), outcome: EditorOutcome) -> Message 
     })
 }
 
-// The response with this body is written so.
-fn expect_body(rt: &(impl Abort + AllocGlobal), body: EditorBody, json: &str) {
+/// The response with this body is written so.
+pub fn expect_body(rt: &(impl Abort + AllocGlobal), body: EditorBody, json: &str) {
     let end = r#","command":"c","request_seq":9,"seq":12,"success":true,"type":"response"}"#;
     let message = response(rt, EditorOutcome::Success(body));
     expect_message(rt, message, r#"{"body":"#, json, end);
@@ -74,22 +76,20 @@ fn expect_body(rt: &(impl Abort + AllocGlobal), body: EditorBody, json: &str) {
 const CAPABILITIES: &str = concat!(
     r#"{"exceptionBreakpointFilters":[{"default":true,"filter":"undefined","#,
     r#""label":"Undefined opcodes"},{"default":false,"filter":"halt","label":"HLT"}],"#,
-    r#""supportsBreakpointLocationsRequest":true,"supportsConditionalBreakpoints":true,"#,
+    r#""supportsBreakpointLocationsRequest":true,"supportsCompletionsRequest":true,"#,
+    r#""supportsConditionalBreakpoints":true,"#,
     r#""supportsConfigurationDoneRequest":true,"supportsDataBreakpointBytes":true,"#,
-    r#""supportsDataBreakpoints":true,"supportsDisassembleRequest":true,"#,
+    r#""supportsDataBreakpoints":true,"supportsDelayedStackTraceLoading":true,"#,
+    r#""supportsDisassembleRequest":true,"#,
     r#""supportsEvaluateForHovers":true,"supportsExceptionInfoRequest":true,"#,
     r#""supportsFunctionBreakpoints":true,"supportsGotoTargetsRequest":true,"#,
     r#""supportsHitConditionalBreakpoints":true,"supportsInstructionBreakpoints":true,"#,
     r#""supportsLoadedSourcesRequest":true,"#,
     r#""supportsLogPoints":true,"supportsReadMemoryRequest":true,"#,
-    r#""supportsRestartRequest":true,"supportsSetVariable":true,"supportsStepBack":true,"#,
+    r#""supportsRestartRequest":true,"supportsSetExpression":true,"#,
+    r#""supportsSetVariable":true,"supportsStepBack":true,"#,
     r#""supportsSteppingGranularity":true,"supportsTerminateRequest":true,"#,
     r#""supportsWriteMemoryRequest":true}"#,
-);
-
-const SOURCES: &str = concat!(
-    r#"{"sources":[{"name":"a.asm","path":"/home/u/a.asm"},{"name":"b.asm","path":"b.asm"},"#,
-    r#"{"name":"","path":"c/"}]}"#,
 );
 
 const EXCEPTION: &str = concat!(
@@ -141,36 +141,20 @@ fn bodies(rt: HostRuntime) {
     let threads = r#"{"threads":[{"id":1,"name":"8080"}]}"#;
     expect_body(&rt, EditorBody::Board(Body::Threads), threads);
     expect_body(&rt, EditorBody::Capabilities, CAPABILITIES);
-    expect_info(
-        &rt,
-        Some(text(&rt, "m 1234 2")),
-        r#"1234 "and" 1235"#,
-        WATCHED,
-    );
+    let id = Some(text(&rt, "m 1234 2"));
+    expect_info(&rt, id, r#"1234 "and" 1235"#, WATCHED);
     expect_info(&rt, Some(text(&rt, "")), "", EMPTY);
     expect_info(&rt, None, "Undefined", NOT_WATCHED);
-    expect_body(
-        &rt,
-        EditorBody::Locations(numbers(&rt, &[])),
-        r#"{"breakpoints":[]}"#,
-    );
+    let locations = EditorBody::Locations(numbers(&rt, &[]));
+    expect_body(&rt, locations, r#"{"breakpoints":[]}"#);
     let locations = EditorBody::Locations(numbers(&rt, &[5, 4294967295]));
-    expect_body(
-        &rt,
-        locations,
-        r#"{"breakpoints":[{"line":5},{"line":4294967295}]}"#,
-    );
+    let json = r#"{"breakpoints":[{"line":5},{"line":4294967295}]}"#;
+    expect_body(&rt, locations, json);
     let opcode = UndefinedOpcode {
         opcode: 0xed,
         pc: 0x01af,
     };
     expect_body(&rt, EditorBody::Exception(opcode), EXCEPTION);
-    let value = EditorBody::Evaluation(text(&rt, r#"0FFH "255""#));
-    expect_body(
-        &rt,
-        value,
-        r#"{"result":"0FFH \"255\"","variablesReference":0}"#,
-    );
     expect_body(&rt, EditorBody::Written(65536), r#"{"bytesWritten":65536}"#);
     let none = EditorBody::Sources(Sequence::new(rt.alloc()));
     expect_body(&rt, none, r#"{"sources":[]}"#);
@@ -178,29 +162,132 @@ fn bodies(rt: HostRuntime) {
 
 #[test]
 fn memory_and_places(rt: HostRuntime) {
-    expect_memory(
-        &rt,
-        0xc3fe,
-        &[0, 255, 16],
-        0,
-        r#"{"address":"0xc3fe","data":"AP8Q"}"#,
-    );
+    let three = r#"{"address":"0xc3fe","data":"AP8Q"}"#;
+    expect_memory(&rt, 0xc3fe, &[0, 255, 16], 0, three);
     let last = r#"{"address":"0xffff","data":"AA==","unreadableBytes":7}"#;
     expect_memory(&rt, 65535, &[0], 7, last);
     let none = r#"{"address":"0x0000","unreadableBytes":4294967295}"#;
     expect_memory(&rt, 0, &[], 4294967295, none);
     expect_memory(&rt, 0, &[], 0, r#"{"address":"0x0000"}"#);
-    let mut paths = Sequence::new(rt.alloc());
-    made(&rt, paths.push(text(&rt, "/home/u/a.asm")));
-    made(&rt, paths.push(text(&rt, "b.asm")));
-    made(&rt, paths.push(text(&rt, "c/")));
-    expect_body(&rt, EditorBody::Sources(paths), SOURCES);
     expect_body(&rt, EditorBody::Targets(None), r#"{"targets":[]}"#);
     let target = GotoTarget {
         address: 0x01af,
         line: 12,
     };
     expect_body(&rt, EditorBody::Targets(Some(target)), TARGETS);
+}
+
+fn shown(rt: &(impl Abort + AllocGlobal), value: &str, memory: Option<u16>) -> ShownValue {
+    ShownValue {
+        text: text(rt, value),
+        memory,
+    }
+}
+
+#[test]
+fn values(rt: HostRuntime) {
+    let value = EditorBody::Evaluation(shown(&rt, r#"0FFH "255""#, None));
+    let json = r#"{"result":"0FFH \"255\"","variablesReference":0}"#;
+    expect_body(&rt, value, json);
+    let value = EditorBody::Evaluation(shown(&rt, "41H", Some(0x010b)));
+    let json = r#"{"memoryReference":"0x010b","result":"41H","variablesReference":0}"#;
+    expect_body(&rt, value, json);
+    let value = EditorBody::Value(shown(&rt, "00100H", None));
+    expect_body(&rt, value, r#"{"value":"00100H"}"#);
+    let value = EditorBody::Value(shown(&rt, "", Some(0)));
+    expect_body(&rt, value, r#"{"memoryReference":"0x0000","value":""}"#);
+}
+
+const VARIABLES: &str = concat!(
+    r#"{"variables":[{"name":"A","value":"0FFH","variablesReference":0},"#,
+    r#"{"evaluateName":"COUNT","name":"COUNT","value":"1234H","variablesReference":0},"#,
+    r#"{"memoryReference":"0xffff","name":"","value":"","variablesReference":0},"#,
+    r#"{"evaluateName":"M[\"A\"]","memoryReference":"0x0041","name":"0041","value":"07H","#,
+    r#""variablesReference":0}]}"#,
+);
+
+// A variable with its value and its place in memory, and an expression for it.
+fn variable(
+    rt: &(impl Abort + AllocGlobal),
+    name: &str,
+    value: &str,
+    memory: Option<u16>,
+    expression: Option<Text>,
+) -> EditorVariable {
+    EditorVariable {
+        name: text(rt, name),
+        value: shown(rt, value, memory),
+        expression,
+    }
+}
+
+#[test]
+fn variables(rt: HostRuntime) {
+    let none = EditorBody::Variables(Sequence::new(rt.alloc()));
+    expect_body(&rt, none, r#"{"variables":[]}"#);
+    let mut list = Sequence::new(rt.alloc());
+    made(&rt, list.push(variable(&rt, "A", "0FFH", None, None)));
+    let count = Some(text(&rt, "COUNT"));
+    made(&rt, list.push(variable(&rt, "COUNT", "1234H", None, count)));
+    made(&rt, list.push(variable(&rt, "", "", Some(0xffff), None)));
+    let cell = Some(text(&rt, r#"M["A"]"#));
+    let cell = variable(&rt, "0041", "07H", Some(0x41), cell);
+    made(&rt, list.push(cell));
+    expect_body(&rt, EditorBody::Variables(list), VARIABLES);
+}
+
+const SCOPES: &str = concat!(
+    r#"{"scopes":[{"expensive":false,"name":"Registers","presentationHint":"registers","#,
+    r#""variablesReference":1},{"expensive":false,"name":"Flags","variablesReference":2},"#,
+    r#"{"expensive":false,"indexedVariables":0,"name":"Stack","variablesReference":6},"#,
+    r#"{"expensive":false,"name":"Devices","variablesReference":3},{"expensive":false,"#,
+    r#""indexedVariables":4294967295,"name":"Symbols","variablesReference":4},{"expensive":true,"#,
+    r#""indexedVariables":65536,"name":"Memory","variablesReference":5}]}"#,
+);
+
+#[test]
+fn scopes(rt: HostRuntime) {
+    let body = EditorBody::Scopes {
+        symbols: 4294967295,
+        words: 0,
+    };
+    expect_body(&rt, body, SCOPES);
+}
+
+const COMPLETIONS: &str = concat!(
+    r#"{"targets":[{"label":"HL","length":2,"start":5,"type":"variable"},"#,
+    r#"{"label":"\"\"","length":2,"start":5,"type":"reference"},"#,
+    r#"{"label":"help","length":2,"start":5,"type":"keyword"}]}"#,
+);
+
+fn push_completion(
+    rt: &(impl Abort + AllocGlobal),
+    items: &mut Sequence<Completion>,
+    label: &str,
+    kind: CompletionKind,
+) {
+    let label = text(rt, label);
+    made(rt, items.push(Completion { label, kind }));
+}
+
+#[test]
+fn completions(rt: HostRuntime) {
+    let none = EditorBody::Completions {
+        items: Sequence::new(rt.alloc()),
+        start: 0,
+        length: 0,
+    };
+    expect_body(&rt, none, r#"{"targets":[]}"#);
+    let mut items = Sequence::new(rt.alloc());
+    push_completion(&rt, &mut items, "HL", CompletionKind::Part);
+    push_completion(&rt, &mut items, r#""""#, CompletionKind::Symbol);
+    push_completion(&rt, &mut items, "help", CompletionKind::Word);
+    let body = EditorBody::Completions {
+        items,
+        start: 5,
+        length: 2,
+    };
+    expect_body(&rt, body, COMPLETIONS);
 }
 
 fn placed(
@@ -231,14 +318,17 @@ fn expect_one(rt: &(impl Abort + AllocGlobal), breakpoint: PlacedBreakpoint, jso
     expect_body(rt, EditorBody::Breakpoints(list), json);
 }
 
-// The same for the breakpoint with the number 1, with this line and this message.
+// The line and the message of the breakpoint with the number 1 are written so.
 fn expect_noted(
     rt: &(impl Abort + AllocGlobal),
     line: Option<u32>,
     note: BreakpointNote,
     json: &str,
 ) {
-    expect_one(rt, placed(1, line, None, false, Some(note)), json);
+    let frame = r#"{"breakpoints":[{"id":1,%,"verified":false}]}"#;
+    let json = made(rt, frame.replace(rt.alloc(), '%', json));
+    expect_one(rt, placed(1, line, None, false, Some(note)), json.as_str());
+    drop(json);
 }
 
 #[test]
@@ -257,59 +347,28 @@ fn breakpoints(rt: HostRuntime) {
     expect_one(&rt, placed(1, Some(12), Some(0xffff), true, None), json);
 }
 
-const MOVED: &str =
-    r#"{"breakpoints":[{"id":1,"line":13,"message":"moved from line 12","verified":false}]}"#;
-
-const NO_CODE: &str = concat!(
-    r#"{"breakpoints":[{"id":1,"line":40,"message":"no code at or below line 40","#,
-    r#""verified":false}]}"#,
-);
-
-const NOT_LAUNCHED: &str =
-    r#"{"breakpoints":[{"id":1,"line":0,"message":"nothing is launched yet","verified":false}]}"#;
-
-const OTHER_PROGRAM: &str =
-    r#"{"breakpoints":[{"id":1,"line":1,"message":"the program is /a b.asm","verified":false}]}"#;
-
-const WRONG: &str =
-    r#"{"breakpoints":[{"id":1,"line":1,"message":"condition: Undefined","verified":false}]}"#;
-
-const NOT_TEXT: &str = concat!(
-    r#"{"breakpoints":[{"id":1,"line":1,"message":"conditions and log messages must be texts","#,
-    r#""verified":false}]}"#,
-);
-
-const NO_LABEL: &str = concat!(
-    r#"{"breakpoints":[{"id":1,"line":1,"message":"the program has no such label","#,
-    r#""verified":false}]}"#,
-);
-
-const NO_ADDRESS: &str =
-    r#"{"breakpoints":[{"id":1,"message":"there is no such address","verified":false}]}"#;
-
-const TOO_MANY_DATA: &str = concat!(
-    r#"{"breakpoints":[{"id":1,"line":1,"message":"more than 16 data breakpoints","#,
-    r#""verified":false}]}"#,
-);
-
 #[test]
 fn messages_of_breakpoints(rt: HostRuntime) {
-    expect_noted(&rt, Some(13), BreakpointNote::Moved { from: 12 }, MOVED);
-    expect_noted(&rt, Some(40), BreakpointNote::NoCode { line: 40 }, NO_CODE);
-    expect_noted(&rt, Some(0), BreakpointNote::NotLaunched, NOT_LAUNCHED);
-    let path = text(&rt, "/a b.asm");
-    expect_noted(
-        &rt,
-        Some(1),
-        BreakpointNote::OtherProgram(path),
-        OTHER_PROGRAM,
-    );
-    let why = text(&rt, "condition: Undefined");
-    expect_noted(&rt, Some(1), BreakpointNote::Wrong(why), WRONG);
-    expect_noted(&rt, Some(1), BreakpointNote::NotText, NOT_TEXT);
-    expect_noted(&rt, Some(1), BreakpointNote::NoLabel, NO_LABEL);
-    expect_noted(&rt, None, BreakpointNote::NoAddress, NO_ADDRESS);
-    expect_noted(&rt, Some(1), BreakpointNote::TooManyData, TOO_MANY_DATA);
+    let moved = r#""line":13,"message":"moved from line 12""#;
+    expect_noted(&rt, Some(13), BreakpointNote::Moved { from: 12 }, moved);
+    let no_code = r#""line":40,"message":"no code at or below line 40""#;
+    expect_noted(&rt, Some(40), BreakpointNote::NoCode { line: 40 }, no_code);
+    let not_launched = r#""line":0,"message":"nothing is launched yet""#;
+    expect_noted(&rt, Some(0), BreakpointNote::NotLaunched, not_launched);
+    let other = BreakpointNote::OtherProgram(text(&rt, "/a b.asm"));
+    let json = r#""line":1,"message":"the program is /a b.asm""#;
+    expect_noted(&rt, Some(1), other, json);
+    let wrong = BreakpointNote::Wrong(text(&rt, "condition: Undefined"));
+    let json = r#""line":1,"message":"condition: Undefined""#;
+    expect_noted(&rt, Some(1), wrong, json);
+    let not_text = r#""line":1,"message":"conditions and log messages must be texts""#;
+    expect_noted(&rt, Some(1), BreakpointNote::NotText, not_text);
+    let no_label = r#""line":1,"message":"the program has no such label""#;
+    expect_noted(&rt, Some(1), BreakpointNote::NoLabel, no_label);
+    let no_address = r#""message":"there is no such address""#;
+    expect_noted(&rt, None, BreakpointNote::NoAddress, no_address);
+    let too_many = r#""line":1,"message":"more than 16 data breakpoints""#;
+    expect_noted(&rt, Some(1), BreakpointNote::TooManyData, too_many);
 }
 
 #[test]
@@ -352,27 +411,18 @@ fn expect_stop_at(rt: &(impl Abort + AllocGlobal), kind: BreakpointKind, ids: &[
 fn stops(rt: HostRuntime) {
     expect_stop(&rt, EditorStop::Entry, r#""reason":"entry""#);
     expect_stop(&rt, EditorStop::Goto, r#""reason":"goto""#);
-    expect_stop(
-        &rt,
-        EditorStop::Halted,
-        r#""description":"halted","reason":"step""#,
-    );
+    let halted = r#""description":"halted","reason":"step""#;
+    expect_stop(&rt, EditorStop::Halted, halted);
     let opcode = UndefinedOpcode {
         opcode: 0x08,
         pc: 0x0100,
     };
     let excepted = r#""reason":"exception","text":"UndefinedOpcode: 08 at 0100""#;
     expect_stop(&rt, EditorStop::Exception(opcode), excepted);
-    expect_stop(
-        &rt,
-        EditorStop::Board(StopReason::Breakpoint),
-        r#""reason":"breakpoint""#,
-    );
-    expect_stop(
-        &rt,
-        EditorStop::Board(StopReason::Pause),
-        r#""reason":"pause""#,
-    );
+    let stop = EditorStop::Board(StopReason::Breakpoint);
+    expect_stop(&rt, stop, r#""reason":"breakpoint""#);
+    let stop = EditorStop::Board(StopReason::Pause);
+    expect_stop(&rt, stop, r#""reason":"pause""#);
     let lines = r#""hitBreakpointIds":[257,258,1,262657],"reason":"breakpoint""#;
     expect_stop_at(&rt, BreakpointKind::Line, &[257, 258, 1, 262_657], lines);
     let label = r#""hitBreakpointIds":[256],"reason":"function breakpoint""#;
@@ -405,12 +455,8 @@ fn expect_change(rt: &(impl Abort + AllocGlobal), place: Place, values: [u16; 3]
 // The value before, the value after, and the instruction's address.
 #[test]
 fn changes(rt: HostRuntime) {
-    expect_change(
-        &rt,
-        Place::Memory(0x1234),
-        [4, 3, 0x0123],
-        "1234: 03H, was 04H, by 0123",
-    );
+    let cell = Place::Memory(0x1234);
+    expect_change(&rt, cell, [4, 3, 0x0123], "1234: 03H, was 04H, by 0123");
     expect_change(&rt, Place::A, [0, 0xff, 0], "A: FFH, was 00H, by 0000");
     expect_change(&rt, Place::B, [4, 3, 0x0123], "B: 03H, was 04H, by 0123");
     expect_change(&rt, Place::C, [9, 10, 0xffff], "C: 0AH, was 09H, by FFFF");
@@ -420,12 +466,8 @@ fn changes(rt: HostRuntime) {
     expect_change(&rt, Place::L, [1, 2, 3], "L: 02H, was 01H, by 0003");
     let stack = "SP: 0103H, was 0105H, by 0123";
     expect_change(&rt, Place::Sp, [0x0105, 0x0103, 0x0123], stack);
-    expect_change(
-        &rt,
-        Place::Pc,
-        [0xfffe, 0, 0xabcd],
-        "PC: 0000H, was FFFEH, by ABCD",
-    );
+    let jump = "PC: 0000H, was FFFEH, by ABCD";
+    expect_change(&rt, Place::Pc, [0xfffe, 0, 0xabcd], jump);
 }
 
 const INVALIDATED: &str = r#""body":{"areas":["stacks","variables"]},"event":"invalidated""#;
@@ -459,8 +501,8 @@ fn events(rt: HostRuntime) {
     expect_event(&rt, EditorEvent::Terminated, r#""event":"terminated""#);
 }
 
-// The output of these bytes is written so.
-fn expect_output(
+/// The output of these bytes is written so.
+pub fn expect_output(
     rt: &(impl Abort + AllocGlobal),
     category: OutputCategory,
     output: &[u8],
@@ -475,12 +517,19 @@ fn expect_output(
     expect_event(rt, event, json);
 }
 
-fn place(rt: &(impl Abort + AllocGlobal), line: u32, column: u32) -> SourcePlace {
+/// A place in the source with this path.
+pub fn place(rt: &(impl Abort + AllocGlobal), path: &str, line: u32, column: u32) -> SourcePlace {
     SourcePlace {
-        path: text(rt, "/a/b.asm"),
+        path: text(rt, path),
         line,
         column,
     }
+}
+
+/// The line that a breakpoint tells is written so.
+pub fn expect_log(rt: &(impl Abort + AllocGlobal), line: &str, place: SourcePlace, json: &str) {
+    let text = text(rt, line);
+    expect_event(rt, EditorEvent::Log { text, place }, json);
 }
 
 const CONSOLE: &str = r#""body":{"category":"console","output":"ok\n"},"event":"output""#;
@@ -501,17 +550,8 @@ const LOG: &str = concat!(
 fn outputs(rt: HostRuntime) {
     expect_output(&rt, OutputCategory::Console, b"ok\n", None, CONSOLE);
     expect_output(&rt, OutputCategory::Stdout, b"\x41\xe9\x07", None, STDOUT);
-    let at = place(&rt, 3, 5);
-    expect_output(
-        &rt,
-        OutputCategory::Stderr,
-        b"3:5 Syntax\n",
-        Some(at),
-        STDERR,
-    );
-    let log = EditorEvent::Log {
-        text: text(&rt, "é is {B}"),
-        place: place(&rt, 3, 1),
-    };
-    expect_event(&rt, log, LOG);
+    let at = Some(place(&rt, "/a/b.asm", 3, 5));
+    let fault = b"3:5 Syntax\n";
+    expect_output(&rt, OutputCategory::Stderr, fault, at, STDERR);
+    expect_log(&rt, "é is {B}", place(&rt, "/a/b.asm", 3, 1), LOG);
 }

@@ -1,5 +1,6 @@
 //! Requests as editors write them: what each is read as.
 use crate::checks::{expect_made, made, parts};
+use crate::variables::put_variables;
 use base_text::text::Text;
 use dap_editor::reading::read_editor_request;
 use dap_editor::request::{
@@ -12,8 +13,8 @@ use serde_json::Value;
 use std::alloc::{AllocError, AllocGlobal, Global};
 use std::process::Abort;
 
-// Adds a word behind a blank.
-fn put(told: &mut String, word: &str) -> Result<(), AllocError> {
+/// Adds a word behind a blank.
+pub fn put(told: &mut String, word: &str) -> Result<(), AllocError> {
     told.push_str(" ")?;
     told.push_str(word)
 }
@@ -22,7 +23,8 @@ fn put_truth(told: &mut String, truth: bool) -> Result<(), AllocError> {
     told.push_str(if truth { " true" } else { " false" })
 }
 
-fn put_number(told: &mut String, number: u32) -> Result<(), AllocError> {
+/// Adds a number behind a blank.
+pub fn put_number(told: &mut String, number: u32) -> Result<(), AllocError> {
     write!(told, " {number}")
 }
 
@@ -53,11 +55,25 @@ fn put_launch_texts(told: &mut String, launch: &Launch) -> Result<(), AllocError
     if launch.has_watch_commands {
         put(told, "watch")?;
     }
+    if launch.origin != 0 {
+        write!(told, " from {}", launch.origin)?;
+    }
+    if let Some(start) = launch.start {
+        write!(told, " starts {start}")?;
+    }
     let canonical = launch.canonical.as_str();
     if canonical != launch.program.as_str() {
         write!(told, " at {canonical}")?;
     }
     Ok(())
+}
+
+fn put_restart(told: &mut String, launch: &Option<Launch>) -> Result<(), AllocError> {
+    put(told, "restart")?;
+    match launch {
+        Some(launch) => put_launch(told, launch),
+        None => Ok(()),
+    }
 }
 
 // Adds an option after this word, if it is there.
@@ -228,7 +244,7 @@ fn put_command(told: &mut String, command: &EditorCommand) -> Result<(), AllocEr
             put_truth(told, supported.memory)
         }
         EditorCommand::Launch(launch) => put_launch(told, launch),
-        EditorCommand::Restart => put(told, "restart"),
+        EditorCommand::Restart(launch) => put_restart(told, launch),
         EditorCommand::Terminate => put(told, "terminate"),
         EditorCommand::ExceptionInfo => put(told, "exception"),
         EditorCommand::Evaluate {
@@ -256,6 +272,7 @@ fn put_command(told: &mut String, command: &EditorCommand) -> Result<(), AllocEr
             put(told, "goto")?;
             put_number(told, u32::from(*target))
         }
+        EditorCommand::Variables(command) => put_variables(told, command),
         _ => put_memory(told, command),
     }
 }
@@ -310,7 +327,8 @@ fn told_of_value(alloc: Global, text: &str) -> Result<String, AllocError> {
     tell(alloc, read(alloc, text)?)
 }
 
-// Requests with the number 7, a line each: the command, its arguments, and what it is read as.
+// Requests with the number 7, a line each: the command, its arguments, and what it is read as. Where several
+// are read alike, there is a `|` between their arguments.
 const REQUESTS: &str = concat!(
     r#"initialize {"adapterID":"a"} -> initialize false false
 initialize null -> initialize false false
@@ -318,67 +336,48 @@ initialize {"supportsInvalidatedEvent":true,"supportsMemoryEvent":false} -> init
 initialize {"supportsMemoryEvent":true} -> initialize false true
 initialize {"supportsMemoryEvent":1} -> Argument supportsMemoryEvent
 initialize {"supportsInvalidatedEvent":null} -> Argument supportsInvalidatedEvent
-initialize {"supportsMemoryEvent":0,"supportsInvalidatedEvent":0} -> Argument supportsInvalidatedEvent
-initialize [] -> Argument supportsInvalidatedEvent
+initialize {"supportsMemoryEvent":0,"supportsInvalidatedEvent":0} | [] -> Argument supportsInvalidatedEvent
 launch {"program":"a.asm"} -> launch a.asm false false true false 0
 launch {"program":"a.asm","stopAtEnd":true} -> launch a.asm false true true false 0
-launch {"program":"a.asm","stopAtEnd":1} -> Argument stopAtEnd
-launch {"program":"a.asm","stopAtEnd":null} -> Argument stopAtEnd
+launch {"program":"a.asm","stopAtEnd":1} | {"program":"a.asm","stopAtEnd":null} -> Argument stopAtEnd
 launch {"program":"","stopOnEntry":true,"noDebug":true,"#,
     r#""aliases":true,"switches":255,"other":null} -> launch  true false false true 255
-launch {"program":"a","switches":256} -> Argument switches
-launch {"program":"a","switches":1.0} -> Argument switches
+launch {"program":"a","switches":256} | {"program":"a","switches":1.0} -> Argument switches
 launch {"program":"a","noDebug":null} -> Argument noDebug
 launch {"program":"a","stopOnEntry":0} -> Argument stopOnEntry
 launch {"program":"a","aliases":"yes"} -> Argument aliases
 launch {"watchCommands":1,"switches":-1,"stopAtEnd":0,"program":"a"} -> Argument stopAtEnd
 launch {"watchCommands":1,"switches":-1,"program":"a"} -> Argument switches
-launch {"stopOnEntry":1} -> Argument program
-launch {"stopOnEntry":true} -> Argument program
-launch [] -> Argument program
-launch null -> Argument program
+launch {"stopOnEntry":1} | {"stopOnEntry":true} | [] | null -> Argument program
 launch {"program":"a","input":"h\u0069 \"8080\""} -> launch a false false true false 0 [hi "8080"]
 launch {"program":"a","input":""} -> launch a false false true false 0
-launch {"program":"a","input":7} -> Argument input
-launch {"program":"a","input":null} -> Argument input
+launch {"program":"a","input":7} | {"program":"a","input":null} -> Argument input
 launch {"program":"a","watchCommands":true} -> launch a false false true false 0 watch
 launch {"program":"a","watchCommands":false} -> launch a false false true false 0
 launch {"program":"a","watchCommands":"true"} -> Argument watchCommands
 restart 3 -> restart
 terminate null -> terminate
-setExceptionBreakpoints {"filters":[]} -> exceptions false false
-setExceptionBreakpoints null -> exceptions false false
+setExceptionBreakpoints {"filters":[]} | null -> exceptions false false
 setExceptionBreakpoints {"filters":["halt"]} -> exceptions false true
 setExceptionBreakpoints {"filters":[3,"undefined","Halt",null,"other"]} -> exceptions true false
 setExceptionBreakpoints {"filters":["halt","halt","undefined"]} -> exceptions true true
-setExceptionBreakpoints {"filters":"halt"} -> Argument filters
-setExceptionBreakpoints {"filters":null} -> Argument filters
-stepBack {"threadId":1} -> back by line
-stepBack null -> back by line
-stepBack {"threadId":1,"granularity":"statement"} -> back by line
+setExceptionBreakpoints {"filters":"halt"} | {"filters":null} -> Argument filters
+stepBack {"threadId":1} | null | {"threadId":1,"granularity":"statement"} -> back by line
 stepBack {"threadId":"x","granularity":"instruction"} -> back by instruction
 stepBack {"threadId":1,"granularity":"line"} -> back by line
 stepBack {"threadId":1,"granularity":2} -> Argument granularity
-reverseContinue {"threadId":1} -> back
-reverseContinue null -> back
+reverseContinue {"threadId":1} | null -> back
 gotoTargets {"source":{"path":"a.asm"},"line":12,"column":3} -> targets a.asm 12
 gotoTargets {"source":{"path":""},"line":0} -> targets  0
-gotoTargets {"source":{"name":"a.asm"},"line":12} -> Argument source
-gotoTargets {"source":"a.asm","line":12} -> Argument source
-gotoTargets {"source":{"path":"a.asm"}} -> Argument line
-gotoTargets {"source":{"path":"a.asm"},"line":-1} -> Argument line
+gotoTargets {"source":{"name":"a.asm"},"line":12} | {"source":"a.asm","line":12} -> Argument source
+gotoTargets {"source":{"path":"a.asm"}} | {"source":{"path":"a.asm"},"line":-1} -> Argument line
 gotoTargets {"source":{"path":"a.asm"},"line":4294967296} -> Argument line
-gotoTargets {"line":12} -> Argument source
-gotoTargets {"line":-1} -> Argument source
-gotoTargets null -> Argument source
+gotoTargets {"line":12} | {"line":-1} | null -> Argument source
 goto {"threadId":1,"targetId":65535} -> goto 65535
 goto {"targetId":0} -> goto 0
-goto {"threadId":1,"targetId":65536} -> Argument targetId
-goto {"threadId":1,"targetId":-1} -> Argument targetId
-goto {"threadId":1} -> Argument targetId
+goto {"threadId":1,"targetId":65536} | {"threadId":1,"targetId":-1} | {"threadId":1} -> Argument targetId
 goto null -> Argument targetId
-exceptionInfo {"threadId":1} -> exception
-exceptionInfo null -> exception
+exceptionInfo {"threadId":1} | null -> exception
 loadedSources {} -> sources
 setBreakpoints {"source":{"path":"a.asm"},"breakpoints":[{"line":3},{"line":0,"column":2}]} -> lines a.asm 3 0
 setBreakpoints {"source":{"path":""},"lines":[7]} -> lines 
@@ -408,14 +407,11 @@ setBreakpoints {"source":{"path":"a"},"breakpoints":[{"line":-1}]} -> Argument b
 setBreakpoints {"source":{"path":"a"},"breakpoints":[{}]} -> Argument breakpoints
 setBreakpoints {"source":{"path":"a"},"breakpoints":[7]} -> Argument breakpoints
 setBreakpoints {"source":{"path":"a"},"breakpoints":null} -> Argument breakpoints
-setBreakpoints {"source":{},"breakpoints":null} -> Argument source
-setBreakpoints {"source":{"name":"a"},"breakpoints":[]} -> Argument source
-setBreakpoints {"breakpoints":[]} -> Argument source
-setBreakpoints null -> Argument source
+setBreakpoints {"source":{},"breakpoints":null} | {"source":{"name":"a"},"breakpoints":[]} -> Argument source
+setBreakpoints {"breakpoints":[]} | null -> Argument source
 setFunctionBreakpoints {"breakpoints":[]} -> functions
 setFunctionBreakpoints {"breakpoints":[{"name":"LOOP"},{"name":"END","logMessage":""}]} -> functions LOOP END
-setFunctionBreakpoints {} -> Argument breakpoints
-setFunctionBreakpoints {"breakpoints":[{"name":1}]} -> Argument breakpoints
+setFunctionBreakpoints {} | {"breakpoints":[{"name":1}]} -> Argument breakpoints
 setFunctionBreakpoints {"breakpoints":[{"name":"A","condition":""},{"name":""}]} -> functions A 
 setFunctionBreakpoints {"breakpoints":[{"name":"A","condition":"B"},{"name":"C"}]} -> functions A if B C
 setFunctionBreakpoints {"breakpoints":[{"name":"A","hitCondition":null}]} -> functions A
@@ -430,21 +426,15 @@ dataBreakpointInfo {"variablesReference":5,"name":"1234","bytes":2,"asAddress":f
 dataBreakpointInfo {"name":"0x1234","bytes":4294967295,"asAddress":true} -> info 0 4294967295 true 0x1234
 dataBreakpointInfo {"variablesReference":4294967295,"name":"","bytes":0,"#,
     r#""frameId":"x","mode":7} -> info 4294967295 0 false 
-dataBreakpointInfo {"name":7} -> Argument name
-dataBreakpointInfo {"name":null} -> Argument name
-dataBreakpointInfo {"variablesReference":1,"bytes":1} -> Argument name
-dataBreakpointInfo {"name":"A","bytes":-1} -> Argument bytes
-dataBreakpointInfo {"name":"A","bytes":4294967296} -> Argument bytes
+dataBreakpointInfo {"name":7} | {"name":null} | {"variablesReference":1,"bytes":1} -> Argument name
+dataBreakpointInfo {"name":"A","bytes":-1} | {"name":"A","bytes":4294967296} -> Argument bytes
 dataBreakpointInfo {"name":"A","bytes":null} -> Argument bytes
 dataBreakpointInfo {"name":"A","variablesReference":-1} -> Argument variablesReference
 dataBreakpointInfo {"name":"A","variablesReference":4294967296} -> Argument variablesReference
 dataBreakpointInfo {"name":"A","variablesReference":"1"} -> Argument variablesReference
-dataBreakpointInfo {"name":"A","asAddress":1} -> Argument asAddress
-dataBreakpointInfo {"name":"A","asAddress":null} -> Argument asAddress
-dataBreakpointInfo {"name":7,"bytes":-1,"asAddress":1} -> Argument name
-dataBreakpointInfo {"name":7,"variablesReference":null} -> Argument variablesReference
-dataBreakpointInfo "A" -> Argument variablesReference
-dataBreakpointInfo null -> Argument name
+dataBreakpointInfo {"name":"A","asAddress":1} | {"name":"A","asAddress":null} -> Argument asAddress
+dataBreakpointInfo {"name":7,"bytes":-1,"asAddress":1} | null -> Argument name
+dataBreakpointInfo {"name":7,"variablesReference":null} | "A" -> Argument variablesReference
 setDataBreakpoints {"breakpoints":[]} -> data
 setDataBreakpoints {"breakpoints":[{"dataId":"A"},{"dataId":"1234","accessType":"write"}]} -> data A 1234
 setDataBreakpoints {"breakpoints":[{"dataId":""},{"dataId":"B","accessType":""}]} -> data  B
@@ -468,20 +458,14 @@ setDataBreakpoints {"breakpoints":[{"dataId":"A","accessType":"read","#,
 setDataBreakpoints {"breakpoints":[{"dataId":"A","logMessage":"B"},{"dataId":"B","logMessage":7}]} -> data A B
 setDataBreakpoints {"breakpoints":[{"dataId":"A"},{"dataId":7}]} -> Argument breakpoints
 setDataBreakpoints {"breakpoints":[{"dataId":null}]} -> Argument breakpoints
-setDataBreakpoints {"breakpoints":[{"condition":"B"}]} -> Argument breakpoints
-setDataBreakpoints {"breakpoints":["A"]} -> Argument breakpoints
-setDataBreakpoints {"breakpoints":null} -> Argument breakpoints
-setDataBreakpoints {} -> Argument breakpoints
-setDataBreakpoints null -> Argument breakpoints
+setDataBreakpoints {"breakpoints":[{"condition":"B"}]} | {"breakpoints":["A"]} -> Argument breakpoints
+setDataBreakpoints {"breakpoints":null} | {} | null -> Argument breakpoints
 setInstructionBreakpoints {"breakpoints":[]} -> instructions
 setInstructionBreakpoints {"breakpoints":[{"instructionReference":"0xFFFF"},"#,
     r#"{"instructionReference":"?"},{"instructionReference":"0x0000"}]} -> instructions 65535 - 0
 setInstructionBreakpoints {"breakpoints":[{"instructionReference":"0x0100"},{}]} -> Argument breakpoints
-setInstructionBreakpoints {"breakpoints":["0x0100"]} -> Argument breakpoints
-setInstructionBreakpoints {"breakpoints":{}} -> Argument breakpoints
-setInstructionBreakpoints {"breakpoints":null} -> Argument breakpoints
-setInstructionBreakpoints {} -> Argument breakpoints
-setInstructionBreakpoints null -> Argument breakpoints
+setInstructionBreakpoints {"breakpoints":["0x0100"]} | {"breakpoints":{}} -> Argument breakpoints
+setInstructionBreakpoints {"breakpoints":null} | {} | null -> Argument breakpoints
 breakpointLocations {"source":{"path":"a.asm"},"line":5} -> locations a.asm 5 5
 breakpointLocations {"source":{"path":"a.asm"},"line":5,"endLine":9,"column":1} -> locations a.asm 5 9
 breakpointLocations {"source":{"path":"a.asm"},"line":5,"endLine":0} -> locations a.asm 5 0
@@ -489,16 +473,13 @@ breakpointLocations {"source":{"path":"a.asm"},"line":5,"endLine":null} -> Argum
 breakpointLocations {"source":{"path":"a.asm"},"endLine":5} -> Argument line
 breakpointLocations {"source":{"path":"a.asm"},"line":4294967296} -> Argument line
 breakpointLocations {"source":{"path":"a.asm"},"line":"5","endLine":"9"} -> Argument line
-breakpointLocations {"source":{},"line":5} -> Argument source
-breakpointLocations null -> Argument source
-evaluate {"expression":"HL","frameId":"x"} -> evaluate other HL
+breakpointLocations {"source":{},"line":5} | null -> Argument source
+evaluate {"expression":"HL","frameId":"x"} | {"expression":"HL","context":"Repl"} -> evaluate other HL
 evaluate {"expression":"HL","context":"repl"} -> evaluate repl HL
-evaluate {"expression":"HL","context":"Repl"} -> evaluate other HL
 evaluate {"expression":"HL","context":"watch"} -> evaluate watch HL
 evaluate {"expression":"HL","context":"hover"} -> evaluate other HL
 evaluate {"expression":"HL","context":1} -> Argument context
-evaluate {"context":1} -> Argument expression
-evaluate {} -> Argument expression
+evaluate {"context":1} | {} -> Argument expression
 readMemory {"memoryReference":"0xFf00","count":16} -> read 65280 +0 16
 readMemory {"memoryReference":"0x0000","offset":-4294967295,"#,
     r#""count":4294967295} -> read 0 -4294967295 4294967295
@@ -506,10 +487,9 @@ readMemory {"memoryReference":"0x0000","offset":4294967295,"count":0} -> read 0 
 readMemory {"memoryReference":"0x0000","offset":4294967296,"count":0} -> Argument offset
 readMemory {"memoryReference":"0x0000","offset":-4294967296,"count":0} -> Argument offset
 readMemory {"memoryReference":"0x0000","offset":-0,"count":0} -> Argument offset
-readMemory {"memoryReference":"0000","count":1} -> Argument memoryReference
+readMemory {"memoryReference":"0000","count":1} | null -> Argument memoryReference
 readMemory {"memoryReference":"0x0000"} -> Argument count
 readMemory {"memoryReference":"0x0000","offset":"1"} -> Argument offset
-readMemory null -> Argument memoryReference
 writeMemory {"memoryReference":"0x0100","offset":-1,"data":"AP8Q"} -> write 256 -1 0 255 16
 writeMemory {"memoryReference":"0x0100","data":""} -> write 256 +0
 writeMemory {"memoryReference":"0x0100","data":"AA=="} -> write 256 +0 0
@@ -529,60 +509,46 @@ disassemble {"memoryReference":"0x1234","offset":0.5,"instructionOffset":-65537}
 disassemble {} -> Argument memoryReference
 threads null -> board threads
 stackTrace null -> board stackTrace
-scopes null -> Arguments"#,
+source null -> Arguments"#,
 );
 
-// The text of a request with the number 7: its command and its arguments.
-fn request(alloc: Global, asked: &str) -> Result<String, AllocError> {
-    let (command, arguments) = asked.split_once(" ").unwrap_or((asked, "null"));
+// The text of a request with the number 7.
+fn request(alloc: Global, command: &str, arguments: &str) -> Result<String, AllocError> {
     format!(in alloc;
         "{{\"seq\":7,\"type\":\"request\",\"command\":\"{command}\",\"arguments\":{arguments}}}"
     )
 }
 
-fn read_request(alloc: Global, asked: &str) -> Result<EditorRequest, AllocError> {
-    let text = request(alloc, asked)?;
+fn read_request(
+    alloc: Global,
+    command: &str,
+    arguments: &str,
+) -> Result<EditorRequest, AllocError> {
+    let text = request(alloc, command, arguments)?;
     let request = read(alloc, text.as_str());
     drop(text);
     request
 }
 
-// What a request is read as, behind its number and its command, if its file has this canonical path.
-fn told_with(alloc: Global, asked: &str, path: Option<Text>) -> Result<String, AllocError> {
-    match read_request(alloc, asked) {
-        Ok(request) => tell(alloc, request.with_canonical(path)),
-        Err(fault) => {
-            drop(path);
-            Err(fault)
-        }
-    }
-}
-
-fn told_of_request(alloc: Global, asked: &str) -> Result<String, AllocError> {
-    tell(alloc, read_request(alloc, asked)?)
-}
-
-// What a row must tell: the number, the command, and what the request is read as.
-fn wanted_of(alloc: Global, asked: &str, wanted: &str) -> Result<String, AllocError> {
-    let (command, _) = asked.split_once(" ").unwrap_or((asked, ""));
-    format!(in alloc; "7 {command}: {wanted}")
+fn told_of_request(alloc: Global, command: &str, arguments: &str) -> Result<String, AllocError> {
+    tell(alloc, read_request(alloc, command, arguments)?)
 }
 
 // A request is read so.
-fn expect_request(rt: &(impl Abort + AllocGlobal), asked: &str, wanted: &str) {
-    let wanted = made(rt, wanted_of(rt.alloc(), asked, wanted));
-    expect_made(
-        rt,
-        asked,
-        told_of_request(rt.alloc(), asked),
-        wanted.as_str(),
-    );
+fn expect_request(rt: &(impl Abort + AllocGlobal), command: &str, arguments: &str, wanted: &str) {
+    let wanted = made(rt, format!(in rt.alloc(); "7 {command}: {wanted}"));
+    let told = told_of_request(rt.alloc(), command, arguments);
+    expect_made(rt, arguments, told, wanted.as_str());
     drop(wanted);
 }
 
-fn expect_row(rt: &(impl Abort + AllocGlobal), row: &str) {
+/// A row's requests are read as the row says: those of its command with each of its arguments.
+pub fn expect_row(rt: &(impl Abort + AllocGlobal), row: &str) {
     let (asked, wanted) = parts(row);
-    expect_request(rt, asked, wanted);
+    let (command, arguments) = asked.split_once(" ").unwrap_or((asked, "null"));
+    for one in arguments.split('|') {
+        expect_request(rt, command, one, wanted);
+    }
 }
 
 #[test]
@@ -594,56 +560,44 @@ fn reads_requests(rt: HostRuntime) {
 
 // Breakpoints at instructions, a line each: what follows the name of the reference, and what it is read as.
 const INSTRUCTIONS: &str = r#""0x010b" -> instructions 267
-"0x010B","offset":0,"other":7 -> instructions 267
-"0x0100","offset":11 -> instructions 267
+"0x010B","offset":0,"other":7 | "0x0100","offset":11 -> instructions 267
 "0x0100","offset":-1 -> instructions 255
 "0x0000","offset":65535 -> instructions 65535
 "0xffff","offset":-65535 -> instructions 0
-"0x0001","offset":65535 -> instructions -
-"0xffff","offset":4294967295 -> instructions -
-"0x00ff","offset":-256 -> instructions -
-"0x0000","offset":-4294967295 -> instructions -
-"0100" -> instructions -
-"0x100" -> instructions -
-"0x00100" -> instructions -
-"0X0100" -> instructions -
-"0x010g","offset":1 -> instructions -
-"" -> instructions -
+"0x0001","offset":65535 | "0xffff","offset":4294967295 | "0x00ff","offset":-256 -> instructions -
+"0x0000","offset":-4294967295 | "0100" | "0x100" | "0x00100" | "0X0100" -> instructions -
+"0x010g","offset":1 | "" -> instructions -
 "0x0100","condition":"A = 1" -> instructions 256 if A = 1
 "","condition":"A" -> instructions - if A
-"0x0100","condition":"" -> instructions 256
-"0x0100","condition":null -> instructions 256
-"0x0100","condition":7 -> instructions 256?
+"0x0100","condition":"" | "0x0100","condition":null | "0x0100","hitCondition":"" -> instructions 256
+"0x0100","condition":7 | "0x0100","hitCondition":2 -> instructions 256?
 "0x0100","hitCondition":"2" -> instructions 256 hit 2
 "","hitCondition":"2","condition":"A" -> instructions - if A hit 2
-"0x0100","hitCondition":2 -> instructions 256?
 "","condition":"A","hitCondition":2 -> instructions - if A?
-"0x0100","hitCondition":"" -> instructions 256
-"0x0100","hitCondition":null -> instructions 256
-"0x0100","logMessage":"A" -> instructions 256
-"0x0100","logMessage":7 -> instructions 256
-"0x0100","offset":4294967296 -> Argument breakpoints
-"0x0100","offset":-4294967296 -> Argument breakpoints
-"0x0100","offset":-0 -> Argument breakpoints
-"0x0100","offset":1.0 -> Argument breakpoints
-"0x0100","offset":"1" -> Argument breakpoints
-"0x0100","offset":null -> Argument breakpoints
-"","offset":null -> Argument breakpoints
-256 -> Argument breakpoints
+"0x0100","hitCondition":null | "0x0100","logMessage":"A" | "0x0100","logMessage":7 -> instructions 256
+"0x0100","offset":4294967296 | "0x0100","offset":-4294967296 | "0x0100","offset":-0 -> Argument breakpoints
+"0x0100","offset":1.0 | "0x0100","offset":"1" | "0x0100","offset":null -> Argument breakpoints
+"","offset":null | 256 -> Argument breakpoints
 null -> Argument breakpoints"#;
 
-fn expect_instruction(rt: &(impl Abort + AllocGlobal), row: &str) {
-    let (one, wanted) = parts(row);
-    let frame = r#"setInstructionBreakpoints {"breakpoints":[{"instructionReference":%}]}"#;
-    let asked = made(rt, frame.replace(rt.alloc(), '%', one));
-    expect_request(rt, asked.as_str(), wanted);
-    drop(asked);
+fn expect_instruction(rt: &(impl Abort + AllocGlobal), one: &str, wanted: &str) {
+    let frame = r#"{"breakpoints":[{"instructionReference":%}]}"#;
+    let arguments = made(rt, frame.replace(rt.alloc(), '%', one));
+    expect_request(rt, "setInstructionBreakpoints", arguments.as_str(), wanted);
+    drop(arguments);
+}
+
+fn expect_instructions(rt: &(impl Abort + AllocGlobal), row: &str) {
+    let (every, wanted) = parts(row);
+    for one in every.split('|') {
+        expect_instruction(rt, one, wanted);
+    }
 }
 
 #[test]
 fn reads_breakpoints_at_instructions(rt: HostRuntime) {
     for row in INSTRUCTIONS.lines() {
-        expect_instruction(&rt, row);
+        expect_instructions(&rt, row);
     }
 }
 
@@ -689,58 +643,6 @@ fn reads_256_breakpoints(rt: HostRuntime) {
     let reference = r#"{"instructionReference":"0x0100"},"#;
     expect_many(&rt, REFERENCES, (reference, 255), (" 256", 255));
     expect_many(&rt, MORE_REFERENCES, (reference, 256), ("", 0));
-}
-
-// Requests with the number 7, a line each: the command and its arguments, the path that it names, if any, and
-// what it is with the canonical path `/b.asm`.
-const PATHS: &str = concat!(
-    r#"launch {"program":"a.asm"} -> a.asm -> 7 launch: launch a.asm false false true false 0 at /b.asm
-launch {"program":"/b.asm","switches":7} -> /b.asm -> 7 launch: launch /b.asm false false true false 7
-setBreakpoints {"source":{"path":"../a.asm"},"breakpoints":[{"line":3}]} -> ../a.asm -> "#,
-    r#"7 setBreakpoints: lines /b.asm 3
-breakpointLocations {"source":{"path":"a.asm"},"line":5,"endLine":9} -> a.asm -> "#,
-    r#"7 breakpointLocations: locations /b.asm 5 9
-gotoTargets {"source":{"path":""},"line":12} ->  -> 7 gotoTargets: targets /b.asm 12
-gotoTargets {"line":12} -> - -> 7 gotoTargets: Argument source
-evaluate {"expression":"a.asm"} -> - -> 7 evaluate: evaluate other a.asm
-setFunctionBreakpoints {"breakpoints":[{"name":"A"}]} -> - -> 7 setFunctionBreakpoints: functions A
-loadedSources {} -> - -> 7 loadedSources: sources
-threads null -> - -> 7 threads: board threads
-other null -> - -> 7 other: UnknownCommand"#,
-);
-
-fn path_of(alloc: Global, asked: &str) -> Result<String, AllocError> {
-    let request = read_request(alloc, asked)?;
-    let path = String::from_str(alloc, request.path().unwrap_or("-"));
-    drop(request);
-    path
-}
-
-fn told_with_path(alloc: Global, asked: &str) -> Result<String, AllocError> {
-    let path = Text::copy_of(alloc, "/b.asm")?;
-    told_with(alloc, asked, Some(path))
-}
-
-// A request stays as it is if its file has no canonical path.
-fn expect_kept(rt: &(impl Abort + AllocGlobal), asked: &str) {
-    let same = made(rt, told_of_request(rt.alloc(), asked));
-    expect_made(rt, asked, told_with(rt.alloc(), asked, None), same.as_str());
-    drop(same);
-}
-
-fn expect_paths(rt: &(impl Abort + AllocGlobal), row: &str) {
-    let (asked, found) = parts(row);
-    let (path, wanted) = parts(found);
-    expect_made(rt, asked, path_of(rt.alloc(), asked), path);
-    expect_made(rt, asked, told_with_path(rt.alloc(), asked), wanted);
-    expect_kept(rt, asked);
-}
-
-#[test]
-fn finds_paths(rt: HostRuntime) {
-    for row in PATHS.lines() {
-        expect_paths(&rt, row);
-    }
 }
 
 // Whole values, a line each, and what they are read as.

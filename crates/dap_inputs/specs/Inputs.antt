@@ -18,6 +18,8 @@ use Rattle.dap_editor.specs.declared.request.EditorCommand.TheVariants as editor
 use Rattle.dap_editor.specs.declared.request.EvaluateContext.TheVariants.{Repl, Watch}
 use Rattle.dap_editor.specs.declared.request.RequestContent.{RequestContent}
 use Rattle.dap_editor.specs.declared.request.RequestContent.TheVariants as asked
+use Rattle.dap_look.specs.declared.change.SetValue.{SetValue}
+use Rattle.dap_variables.specs.Answers.{value_set}
 use Rattle.dap_history.specs.declared.input.Input.{Input}
 use Rattle.dap_history.specs.declared.input.Input.TheVariants as input
 use Rattle.dap_history.specs.Runs.{after_input}
@@ -67,14 +69,22 @@ abbrev pub bytes_input : Option ℕ → Bytes → Option Input
 bytes_input None bytes = None
 bytes_input (Some start) bytes = Some (input.Write start (take (65536 - start) bytes))
 
--- what a request changes by hand if it is carried out, on a board with these registers
-abbrev pub input_of : RequestContent → Registers → Option Input
-input_of (asked.Board c) r = command_input c r
-input_of (asked.Editor (editor.Evaluate expression Repl)) r = prompt_input (prompt_command expression) r
-input_of (asked.Editor (editor.WriteMemory address offset bytes)) r =
+-- by which a value is set
+abbrev pub set_input : Option (Result SetValue Text) → Option Input
+set_input (Some (Ok set)) = Some set.input
+set_input other = None
+
+-- what a request changes by hand if it is carried out on this board
+abbrev pub input_of : RequestContent → Board → Option Input
+input_of (asked.Board c) b = command_input c b.machine.regs
+input_of (asked.Editor (editor.Evaluate expression Repl)) b =
+    prompt_input (prompt_command expression) b.machine.regs
+input_of (asked.Editor (editor.Variables c)) b = set_input (value_set c b)
+input_of (asked.Editor (editor.WriteMemory address offset bytes)) b =
     bytes_input (address_at address offset) bytes
-input_of (asked.Editor (editor.Goto target)) r = Some (input.Registers (record r { pc = target }))
-input_of other r = None
+input_of (asked.Editor (editor.Goto target)) b =
+    Some (input.Registers (record b.machine.regs { pc = target }))
+input_of other b = None
 
 -- If a watch may be a line of the prompt, it is evaluated as one.
 abbrev pub as_meant : Bool → RequestContent → RequestContent
@@ -86,7 +96,7 @@ abbrev pub ends_question : RequestContent → Bool
 ends_question (asked.Board (command.BoardType text)) = true
 ends_question (asked.Editor (editor.Evaluate line Repl)) = is_some (behind (codes "type ") line)
 ends_question (asked.Editor (editor.Launch l)) = true
-ends_question (asked.Editor editor.Restart) = true
+ends_question (asked.Editor (editor.Restart l)) = true
 ends_question other = false
 
 abbrev pub after_input_if : Option Input → Board → Board

@@ -2,7 +2,10 @@
 ghost use Rattle.std.specs.Prelude.{◌≡◌, ◌≤◌, IfOk};
 ghost use Rattle.lab_views.specs.Places.{place_named};
 ghost use Rattle.lab_views.specs.Values.{largest_at};
+ghost use Rattle.lab_core.specs.Board.{Board};
+ghost use Rattle.lab_core.specs.Labs.{RepresentsBoard};
 ghost use Rattle.dap_program.specs.Memory.{address_at};
+ghost use Rattle.dap_variables.specs.Answers.{value_set};
 ghost use Rattle.dap_inputs.specs.Prompt.{prompt_command};
 ghost use Rattle.dap_inputs.specs.Inputs as inputs;
 ghost use Rattle.dap_inputs.specs.Inputs.{registers_with, place_input, named_input, command_input};
@@ -11,11 +14,16 @@ ghost use Rattle.dap_inputs.specs.Inputs.{prompt_input, bytes_input};
 use crate::prompt::{PromptCommand, is_typing, prompt_command};
 use base_text::latin::to_bytes;
 use base_text::sequence::Bytes;
-use dap_editor::request::{EditorCommand, EvaluateContext, RequestContent, SignedOffset};
+use dap_editor::request::{
+    EditorCommand, EvaluateContext, RequestContent, SignedOffset, VariablesCommand,
+};
 use dap_history::input::Input;
+use dap_look::change::SetValue;
 use dap_program::memory::address_at;
 use dap_talk::command::DapCommand;
+use dap_variables::answer::value_set;
 use i80_exec::registers::Registers;
+use lab_core::lab::Lab;
 use lab_shown::place::Place;
 use lab_views::place::place_of;
 use lab_views::value::value_of;
@@ -171,27 +179,45 @@ pub fn ends_question(asked: &RequestContent) -> bool
                 context: EvaluateContext::Repl,
             },
         ) => is_typing(expression.as_str()),
-        RequestContent::Editor(EditorCommand::Launch(_) | EditorCommand::Restart) => true,
+        RequestContent::Editor(EditorCommand::Launch(_) | EditorCommand::Restart(_)) => true,
         _ => false,
     }
 }
 
-/// What a request changes by hand if it is carried out, on a board with these registers.
+fn variables_input(
+    alloc: Global,
+    lab: &Lab,
+    command: &VariablesCommand,
+) -> Result<Option<Input>, AllocError>
+    ensures { (b : Board) → RepresentsBoard lab.now b
+        → IfOk result (λ input. input ≡ inputs.set_input (value_set command.now b)) }
+{
+    match value_set(alloc, lab, command)? {
+        Some(Ok(SetValue { input, shown: _ })) => Ok(Some(input)),
+        Some(Err(_)) | None => Ok(None),
+    }
+}
+
+/// What a request changes by hand if it is carried out on this board.
 pub fn input_of(
     alloc: Global,
+    lab: &Lab,
     asked: &RequestContent,
-    registers: Registers,
 ) -> Result<Option<Input>, AllocError>
-    ensures { IfOk result (λ input. input ≡ inputs.input_of asked.now registers) }
+    ensures { (b : Board) → RepresentsBoard lab.now b
+        → IfOk result (λ input. input ≡ inputs.input_of asked.now b) }
 {
     match asked {
-        RequestContent::Board(command) => command_input(alloc, command, registers),
+        RequestContent::Board(command) => command_input(alloc, command, lab.regs()),
         RequestContent::Editor(
             EditorCommand::Evaluate {
                 expression,
                 context: EvaluateContext::Repl,
             },
-        ) => prompt_input(alloc, expression.as_str(), registers),
+        ) => prompt_input(alloc, expression.as_str(), lab.regs()),
+        RequestContent::Editor(EditorCommand::Variables(command)) => {
+            variables_input(alloc, lab, command)
+        }
         RequestContent::Editor(
             EditorCommand::WriteMemory {
                 address,
@@ -200,7 +226,7 @@ pub fn input_of(
             },
         ) => bytes_input(alloc, *address, *offset, bytes),
         RequestContent::Editor(EditorCommand::Goto { target }) => {
-            let mut changed = registers;
+            let mut changed = lab.regs();
             changed.pc = *target;
             Ok(Some(Input::Registers(changed)))
         }

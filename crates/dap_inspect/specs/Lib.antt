@@ -1,5 +1,3 @@
-pub mod Registers
-pub mod Expressions
 pub mod Memory
 pub mod Instructions
 pub mod Labels

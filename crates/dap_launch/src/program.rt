@@ -147,6 +147,8 @@ pub fn copy_launch(launch: &Launch) -> Result<Launch, AllocError>
         switches: launch.switches,
         input,
         has_watch_commands: launch.has_watch_commands,
+        origin: launch.origin,
+        start: launch.start,
     })
 }
 

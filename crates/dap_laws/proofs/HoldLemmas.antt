@@ -14,6 +14,7 @@ use Rattle.dap_messages.specs.declared.message.EditorOutcome.TheVariants.{Refuse
 use Rattle.dap_editor.specs.declared.request.EditorCommand.{EditorCommand}
 use Rattle.dap_editor.specs.declared.request.EditorCommand.TheVariants as editor
 use Rattle.dap_editor.specs.declared.request.EvaluateContext.TheVariants as context
+use Rattle.dap_editor.specs.declared.request.VariablesCommand.TheVariants as variables
 use Rattle.dap_editor.specs.declared.request.RequestContent.{RequestContent}
 use Rattle.dap_editor.specs.declared.request.RequestContent.TheVariants as asked
 use Rattle.dap_search.specs.declared.goal.Goal.{Goal}
@@ -159,7 +160,7 @@ still_can s s' leaves = λ i. can_go_back (record {
 failed_recording : (success : Bool) (a : RequestContent) (s : SessionState) (t : Turn) (o : Option Recording)
     → success ≡ false
     → (if success && (asks_to_load a || not (can_go_back s)) then Some (new_recording t.state.board)
-    else option_and_then (with_input_if (if success then input_of a s.board.machine.regs else None)) o)
+    else option_and_then (with_input_if (if success then input_of a s.board else None)) o)
     ≡ o
 failed_recording false a s t o is = no_input o
 failed_recording true a s t o is = absurd (true≢false is)
@@ -182,6 +183,14 @@ ends_done (asked.Board command.Disconnect) found s is opened = rw opened refl
 ends_done (asked.Editor editor.Terminate) found s is opened = rw opened refl
 ends_done (asked.Editor (editor.Evaluate expression context.Watch)) found s is opened = absurd cc
 ends_done (asked.Editor (editor.Evaluate expression context.Other)) found s is opened = absurd cc
+ends_done (asked.Editor (editor.Variables (variables.Scopes frame))) found s is opened = absurd cc
+ends_done (asked.Editor (editor.Variables (variables.Variables reference start count))) found s is opened =
+    absurd cc
+ends_done (asked.Editor (editor.Variables (variables.SetVariable reference name value))) found s is opened =
+    absurd cc
+ends_done (asked.Editor (editor.Variables (variables.SetExpression expression value))) found s is opened =
+    absurd cc
+ends_done (asked.Editor (editor.Variables (variables.Completions text column))) found s is opened = absurd cc
 ends_done (asked.Board c) found s is opened = absurd cc
 ends_done (asked.Editor c) found s is opened = absurd cc
 ends_done (asked.Faulty f) found s is opened = absurd cc
@@ -237,52 +246,58 @@ refused_all inputs a found = refused_leaves a found (after_all inputs) (recordin
 -- a look loads nothing, makes no input and doesn't go back
 pub record IsNoChange (a : RequestContent) : Type 0 where
   pub loads : asks_to_load a ≡ false
-  pub input : (r : Registers) → input_of a r ≡ None
+  pub input : (b : Board) → input_of a b ≡ None
   pub back : back_of a ≡ None
 
 look_command : (c : DapCommand) → mid_search (asked.Board c) ≡ mid.Look → IsNoChange (asked.Board c)
-look_command command.Threads is = record { loads = refl; input = λ r. refl; back = refl }
-look_command (command.StackTrace start levels) is = record { loads = refl; input = λ r. refl; back = refl }
-look_command (command.Scopes frame) is = record { loads = refl; input = λ r. refl; back = refl }
+look_command command.Threads is = record { loads = refl; input = λ b. refl; back = refl }
+look_command (command.StackTrace start levels) is = record { loads = refl; input = λ b. refl; back = refl }
+look_command (command.Scopes frame) is = record { loads = refl; input = λ b. refl; back = refl }
 look_command (command.Variables reference start count) is =
-    record { loads = refl; input = λ r. refl; back = refl }
+    record { loads = refl; input = λ b. refl; back = refl }
 look_command (command.Disassemble address offset instruction_offset count) is =
-    record { loads = refl; input = λ r. refl; back = refl }
-look_command (command.Source path) is = record { loads = refl; input = λ r. refl; back = refl }
+    record { loads = refl; input = λ b. refl; back = refl }
+look_command (command.Source path) is = record { loads = refl; input = λ b. refl; back = refl }
 look_command other is = absurd cc
 
 look_editing : (c : EditorCommand) → mid_search (asked.Editor c) ≡ mid.Look → IsNoChange (asked.Editor c)
 look_editing (editor.Evaluate expression context.Watch) is =
-    record { loads = refl; input = λ r. refl; back = refl }
+    record { loads = refl; input = λ b. refl; back = refl }
 look_editing (editor.Evaluate expression context.Other) is =
-    record { loads = refl; input = λ r. refl; back = refl }
-look_editing editor.ExceptionInfo is = record { loads = refl; input = λ r. refl; back = refl }
+    record { loads = refl; input = λ b. refl; back = refl }
+look_editing (editor.Variables (variables.Scopes frame)) is =
+    record { loads = refl; input = λ b. refl; back = refl }
+look_editing (editor.Variables (variables.Variables reference start count)) is =
+    record { loads = refl; input = λ b. refl; back = refl }
+look_editing (editor.Variables (variables.Completions text column)) is =
+    record { loads = refl; input = λ b. refl; back = refl }
+look_editing editor.ExceptionInfo is = record { loads = refl; input = λ b. refl; back = refl }
 look_editing (editor.ReadMemory address offset count) is =
-    record { loads = refl; input = λ r. refl; back = refl }
+    record { loads = refl; input = λ b. refl; back = refl }
 look_editing (editor.Disassemble address offset instruction_offset count) is =
-    record { loads = refl; input = λ r. refl; back = refl }
-look_editing editor.LoadedSources is = record { loads = refl; input = λ r. refl; back = refl }
-look_editing (editor.GotoTargets path line) is = record { loads = refl; input = λ r. refl; back = refl }
-look_editing (editor.DataBreakpointInfo query) is = record { loads = refl; input = λ r. refl; back = refl }
+    record { loads = refl; input = λ b. refl; back = refl }
+look_editing editor.LoadedSources is = record { loads = refl; input = λ b. refl; back = refl }
+look_editing (editor.GotoTargets path line) is = record { loads = refl; input = λ b. refl; back = refl }
+look_editing (editor.DataBreakpointInfo query) is = record { loads = refl; input = λ b. refl; back = refl }
 look_editing (editor.BreakpointLocations path first last) is =
-    record { loads = refl; input = λ r. refl; back = refl }
+    record { loads = refl; input = λ b. refl; back = refl }
 look_editing other is = absurd cc
 
 look_changes : (a : RequestContent) → mid_search a ≡ mid.Look → IsNoChange a
 look_changes (asked.Board c) is = look_command c is
 look_changes (asked.Editor c) is = look_editing c is
-look_changes (asked.Faulty f) is = record { loads = refl; input = λ r. refl; back = refl }
+look_changes (asked.Faulty f) is = record { loads = refl; input = λ b. refl; back = refl }
 
 -- by whether the request succeeds, and the run can go back
 look_recording : (success loads can : Bool) (a : RequestContent) (s : SessionState) (b : Board)
     (o : Option Recording) → loads ≡ false → can ≡ can_go_back s → IsNoChange a → IsRecordingOfIf o s
     → (if can then
     (if success && (loads || not can) then Some (new_recording b)
-    else option_and_then (with_input_if (if success then input_of a s.board.machine.regs else None)) o)
+    else option_and_then (with_input_if (if success then input_of a s.board else None)) o)
     else None)
     ≡ o
 look_recording true false true a s b o loads_is can_is none of =
-    ap (λ i. option_and_then (with_input_if i) o) (none.input s.board.machine.regs) ∙ no_input o
+    ap (λ i. option_and_then (with_input_if i) o) (none.input s.board) ∙ no_input o
 look_recording false false true a s b o loads_is can_is none of = no_input o
 look_recording success false false a s b None loads_is can_is none of = refl
 look_recording success false false a s b (Some r) loads_is can_is none of =

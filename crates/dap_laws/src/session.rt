@@ -84,7 +84,7 @@ pub fn changes_are_told()
 pub fn runs_change_by_inputs()
     ensures { (a : RequestContent) (found : Option FileText) (s : SessionState) → asks_to_load a ≡ false
         → RunLasts s (turn a found s)
-        → SameParts (after_input_if (input_of a s.board.machine.regs) s.board) (turn a found s).state.board }
+        → SameParts (after_input_if (input_of a s.board) s.board) (turn a found s).state.board }
 {}
 
 /// A look tells nothing beside its response.

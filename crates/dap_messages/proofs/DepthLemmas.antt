@@ -3,11 +3,17 @@ use Rattle.std.proofs.Common.{◌≤◌, ℕ, ◌==◌, if◌then◌else◌, Boo
 use Rattle.std.proofs.Common.{List, [], ◌∷◌, ◌++◌, map, codes, refl, arith}
 use Rattle.serde_json.specs.Data.{boolean, string, depth, items_depth}
 use Rattle.serde_json.specs.View.{items_of}
-use Rattle.dap_answers.specs.Json.{object_of, whole_number, reference, line_json}
+use Rattle.dap_answers.specs.Json.{object_of, whole_number, reference, line_json, bare_frame}
 use Rattle.dap_answers.specs.declared.answer.Event.TheVariants as board
 use Rattle.dap_answers.proofs.DepthLemmas.{fits, items_within, body_is_shallow, event_is_shallow}
+use Rattle.lab_shown.specs.declared.shown.StackFrame.{StackFrame}
+use Rattle.dap_file.specs.declared.kind.ImageKind.{ImageKind}
+use Rattle.dap_file.specs.Kinds.{kind_of}
+use Rattle.dap_answers.specs.declared.answer.Body.{Body}
+use Rattle.dap_answers.specs.declared.answer.Body.TheVariants as board_body
 use Rattle.dap_messages.specs.declared.message.BreakpointNote.{BreakpointNote}
 use Rattle.dap_messages.specs.declared.message.PlacedBreakpoint.{PlacedBreakpoint}
+use Rattle.dap_messages.specs.declared.message.EditorVariable.{EditorVariable}
 use Rattle.dap_messages.specs.declared.message.EditorBody.{EditorBody}
 use Rattle.dap_messages.specs.declared.message.EditorBody.TheVariants as body
 use Rattle.dap_messages.specs.declared.message.EditorOutcome.{EditorOutcome}
@@ -22,9 +28,11 @@ use Rattle.dap_messages.specs.declared.message.EditorEvent.{EditorEvent}
 use Rattle.dap_messages.specs.declared.message.EditorEvent.TheVariants as event
 use Rattle.dap_messages.specs.declared.message.Message.{Message}
 use Rattle.dap_messages.specs.declared.message.Message.TheVariants.{Response, Event}
-use Rattle.dap_messages.specs.Json.{address_members, line_members, note_members, placed_json, source_json}
-use Rattle.dap_messages.specs.Json.{data_members, data_json, editor_body_json, outcome_json, stopped_json}
-use Rattle.dap_messages.specs.Json.{breakpoint_stop_json, output_json}
+use Rattle.dap_messages.specs.Json.{address_members, line_members, note_members, placed_json}
+use Rattle.dap_messages.specs.Json.{source_of, source_json, source_members, frame_json, board_body_json}
+use Rattle.dap_messages.specs.Json.{data_members, data_json, memory_members, name_members, variable_json}
+use Rattle.dap_messages.specs.Json.{completion_json, editor_body_json, outcome_json, stopped_json}
+use Rattle.dap_messages.specs.Json.{breakpoint_stop_json, output_json, log_json}
 use Rattle.dap_messages.specs.Json.{editor_event_json, message_json}
 
 placed_by : (id : ℕ) (address line : Option ℕ) (note : Option BreakpointNote) (is_verified : Bool)
@@ -54,16 +62,64 @@ informed : (id : Option (List ℕ)) (description : List ℕ) → depth (data_jso
 informed None description = fits _ 5 refl
 informed (Some id) description = fits _ 5 refl
 
+variable_by : (name value : List ℕ) (memory : Option ℕ) (expression : Option (List ℕ))
+    → depth (object_of (name_members expression ++ (memory_members memory ++ (codes "name", string name) ∷
+    (codes "value", string value) ∷ (codes "variablesReference", whole_number 0) ∷ []))) ≤ 1
+variable_by name value None None = fits _ 1 refl
+variable_by name value None (Some expression) = fits _ 1 refl
+variable_by name value (Some address) None = fits _ 1 refl
+variable_by name value (Some address) (Some expression) = fits _ 1 refl
+
+variable : (v : EditorVariable) → depth (variable_json v) ≤ 1
+variable v = variable_by v.name v.value.text v.value.memory v.expression
+
+evaluated : (text : List ℕ) (memory : Option ℕ) → depth (object_of (memory_members memory ++
+    (codes "result", string text) ∷ (codes "variablesReference", whole_number 0) ∷ [])) ≤ 5
+evaluated text None = fits _ 5 refl
+evaluated text (Some address) = fits _ 5 refl
+
+set_to : (text : List ℕ) (memory : Option ℕ)
+    → depth (object_of (memory_members memory ++ (codes "value", string text) ∷ [])) ≤ 5
+set_to text None = fits _ 5 refl
+set_to text (Some address) = fits _ 5 refl
+
+source_by : (kind : Option ImageKind) (path : List ℕ) → depth (source_of kind path) ≤ 1
+source_by None path = fits _ 1 refl
+source_by (Some kind) path = fits _ 1 refl
+
+source : (path : List ℕ) → depth (source_json path) ≤ 1
+source path = source_by (kind_of path) path
+
+frame_by : (f : StackFrame) (path : Option (List ℕ))
+    → depth (object_of (bare_frame f ++ source_members path)) ≤ 2
+frame_by f None = fits _ 2 refl
+frame_by f (Some path) = let h = source path in omega (arith, h)
+
+frame : (f : StackFrame) → depth (frame_json f) ≤ 2
+unfolding frame_json
+frame f = frame_by f f.source
+
+in_board_body : (b : Body) → depth (board_body_json b) ≤ 5
+in_board_body (board_body.StackTrace frames total) =
+    let h = items_within 2 frame_json frame frames in omega (arith, h)
+in_board_body other = body_is_shallow other
+
 in_body : (b : EditorBody) → depth (editor_body_json b) ≤ 5
-in_body (body.Board b) = body_is_shallow b
+in_body (body.Board b) = in_board_body b
 in_body (body.Breakpoints bs) =
     let h = items_within 1 placed_json placed bs in omega (arith, h)
 in_body (body.DataInfo info) = informed info.data_id info.description
 in_body (body.Locations lines) =
     let h = items_within 1 line_json (λ line. fits _ 1 refl) lines in omega (arith, h)
+in_body (body.Variables vs) =
+    let h = items_within 1 variable_json variable vs in omega (arith, h)
+in_body (body.Evaluation v) = evaluated v.text v.memory
+in_body (body.Value v) = set_to v.text v.memory
+in_body (body.Completions cs start count) =
+    let h = items_within 1 (completion_json start count) (λ c. fits _ 1 refl) cs in omega (arith, h)
 in_body (body.Memory address bytes count) = counted address bytes (count == 0) count
 in_body (body.Sources paths) =
-    let h = items_within 1 source_json (λ path. fits _ 1 refl) paths in omega (arith, h)
+    let h = items_within 1 source_json source paths in omega (arith, h)
 in_body (body.Targets None) = fits _ 5 refl
 in_body (body.Targets (Some target)) = fits _ 5 refl
 in_body _ = fits _ 5 refl
@@ -92,13 +148,17 @@ hit kind.Instruction ids = let h = numbered ids in omega (arith, h)
 in_output : (category : OutputCategory) (bytes : List ℕ) (place : Option SourcePlace)
     → depth (output_json category bytes place) ≤ 2
 in_output category bytes None = fits _ 2 refl
-in_output category bytes (Some place) = fits _ 2 refl
+in_output category bytes (Some place) = let h = source place.path in omega (arith, h)
+
+in_log : (text : List ℕ) (place : SourcePlace) → depth (log_json text place) ≤ 2
+in_log text place = let h = source place.path in omega (arith, h)
 
 in_event : (seq : ℕ) (e : EditorEvent) → depth (editor_event_json seq e) ≤ 6
 in_event seq (event.Stopped s) = stopped seq s
 in_event seq (event.StoppedAt s) = let h = hit s.kind s.ids in omega (arith, h)
 in_event seq (event.Output category bytes place) =
     let h = in_output category bytes place in omega (arith, h)
+in_event seq (event.Log text place) = let h = in_log text place in omega (arith, h)
 in_event seq (event.Breakpoint b) = let h = placed b in omega (arith, h)
 in_event seq _ = fits _ 6 refl
 

@@ -32,9 +32,16 @@ use Rattle.serde_json.specs.View.{items_of}
 use Rattle.lab_shown.specs.declared.place.Place.{Place}
 use Rattle.lab_shown.specs.declared.place.Place.TheVariants as place
 use Rattle.lab_shown.specs.declared.place.PlaceChange.{PlaceChange}
+use Rattle.lab_shown.specs.declared.scope.Scope.TheVariants as scope
+use Rattle.lab_shown.specs.declared.shown.StackFrame.{StackFrame}
+use Rattle.lab_shown.specs.Scopes.{reference_of}
+use Rattle.dap_file.specs.declared.kind.ImageKind.{ImageKind}
+use Rattle.dap_file.specs.Kinds.{kind_of}
+use Rattle.dap_answers.specs.declared.answer.Body.{Body}
+use Rattle.dap_answers.specs.declared.answer.Body.TheVariants as board_body
 use Rattle.dap_answers.specs.declared.answer.Event.TheVariants as board
 use Rattle.dap_answers.specs.Json.{object_of, whole_number, list_of, one_list, reference, line_json}
-use Rattle.dap_answers.specs.Json.{body_json}
+use Rattle.dap_answers.specs.Json.{bare_frame, scope_of, body_json}
 use Rattle.dap_answers.specs.Json.{bare_response, refusal_json, bare_event, event_with_body, event_json}
 use Rattle.dap_messages.specs.declared.message.BreakpointNote.{BreakpointNote}
 use Rattle.dap_messages.specs.declared.message.BreakpointNote.TheVariants as note
@@ -42,6 +49,11 @@ use Rattle.dap_messages.specs.declared.message.PlacedBreakpoint.{PlacedBreakpoin
 use Rattle.dap_messages.specs.declared.message.UndefinedOpcode.{UndefinedOpcode}
 use Rattle.dap_messages.specs.declared.message.GotoTarget.{GotoTarget}
 use Rattle.dap_messages.specs.declared.message.DataInfo.{DataInfo}
+use Rattle.dap_messages.specs.declared.message.ShownValue.{ShownValue}
+use Rattle.dap_messages.specs.declared.message.EditorVariable.{EditorVariable}
+use Rattle.dap_messages.specs.declared.message.CompletionKind.{CompletionKind}
+use Rattle.dap_messages.specs.declared.message.CompletionKind.TheVariants as completion
+use Rattle.dap_messages.specs.declared.message.Completion.{Completion}
 use Rattle.dap_messages.specs.declared.message.EditorBody.{EditorBody}
 use Rattle.dap_messages.specs.declared.message.EditorBody.TheVariants as body
 use Rattle.dap_messages.specs.declared.message.EditorOutcome.{EditorOutcome}
@@ -96,10 +108,36 @@ placed_json b = object_of (
 abbrev pub last_part : Text → Text
 last_part path = unwrap_or (option_map (λ parts. parts.1) (rsplit_once slash path)) path
 
-abbrev pub source_json : Text → Data
-source_json path = object_of (
+abbrev pub text_source : Text → Data
+text_source path = object_of (
     (codes "name", string (last_part path)) ∷
     (codes "path", string path) ∷ [])
+
+abbrev pub image_name : Text → Text
+image_name path = last_part path ++ codes " (disassembly)"
+
+-- an editor gets its text by the request `source`
+abbrev pub image_source : Text → Data
+image_source path = object_of (
+    (codes "name", string (image_name path)) ∷
+    (codes "path", string path) ∷
+    (codes "sourceReference", whole_number 1) ∷ [])
+
+abbrev pub source_of : Option ImageKind → Text → Data
+source_of None path = text_source path
+source_of (Some kind) path = image_source path
+
+-- a program without source is shown as its disassembly
+abbrev pub source_json : Text → Data
+source_json path = source_of (kind_of path) path
+
+abbrev pub source_members : Option Text → List (Text × Data)
+source_members None = []
+source_members (Some path) = (codes "source", source_json path) ∷ []
+
+-- with the name of its source, which the kernel's frames don't have
+unfoldable pub frame_json : StackFrame → Data
+frame_json f = object_of (bare_frame f ++ source_members f.source)
 
 -- in base64 (RFC 4648, section 4: the standard alphabet, padded)
 unfoldable pub base64_text : Bytes → Text
@@ -147,10 +185,12 @@ abbrev pub capabilities_json : Data
 capabilities_json = object_of (
     (codes "exceptionBreakpointFilters", filters_json) ∷
     can (codes "supportsBreakpointLocationsRequest") ∷
+    can (codes "supportsCompletionsRequest") ∷
     can (codes "supportsConditionalBreakpoints") ∷
     can (codes "supportsConfigurationDoneRequest") ∷
     can (codes "supportsDataBreakpointBytes") ∷
     can (codes "supportsDataBreakpoints") ∷
+    can (codes "supportsDelayedStackTraceLoading") ∷
     can (codes "supportsDisassembleRequest") ∷
     can (codes "supportsEvaluateForHovers") ∷
     can (codes "supportsExceptionInfoRequest") ∷
@@ -162,6 +202,7 @@ capabilities_json = object_of (
     can (codes "supportsLogPoints") ∷
     can (codes "supportsReadMemoryRequest") ∷
     can (codes "supportsRestartRequest") ∷
+    can (codes "supportsSetExpression") ∷
     can (codes "supportsSetVariable") ∷
     can (codes "supportsStepBack") ∷
     can (codes "supportsSteppingGranularity") ∷
@@ -198,10 +239,74 @@ exception_json u = object_of (
     (codes "description", string (exception_text u)) ∷
     (codes "exceptionId", string (codes "UndefinedOpcode")) ∷ [])
 
-abbrev pub evaluation_json : Text → Data
-evaluation_json text = object_of (
-    (codes "result", string text) ∷
+-- where a value begins in memory, if it is there
+abbrev pub memory_members : Option ℕ → List (Text × Data)
+memory_members None = []
+memory_members (Some address) = (codes "memoryReference", string (reference address)) ∷ []
+
+-- by which an editor watches and changes a variable
+abbrev pub name_members : Option Text → List (Text × Data)
+name_members None = []
+name_members (Some expression) = (codes "evaluateName", string expression) ∷ []
+
+-- the members of a variable, without its expression
+abbrev pub bare_variable : EditorVariable → List (Text × Data)
+bare_variable v = memory_members v.value.memory ++
+    (codes "name", string v.name) ∷
+    (codes "value", string v.value.text) ∷
+    (codes "variablesReference", whole_number 0) ∷ []
+
+abbrev pub variable_json : EditorVariable → Data
+variable_json v = object_of (name_members v.expression ++ bare_variable v)
+
+abbrev pub evaluation_json : ShownValue → Data
+evaluation_json v = object_of (memory_members v.memory ++
+    (codes "result", string v.text) ∷
     (codes "variablesReference", whole_number 0) ∷ [])
+
+-- of a variable or an expression that was set
+abbrev pub value_json : ShownValue → Data
+value_json v = object_of (memory_members v.memory ++ (codes "value", string v.text) ∷ [])
+
+abbrev pub registers_json : Data
+registers_json = object_of (
+    (codes "expensive", boolean false) ∷
+    (codes "name", string (codes "Registers")) ∷
+    (codes "presentationHint", string (codes "registers")) ∷
+    (codes "variablesReference", whole_number (reference_of scope.Registers)) ∷ [])
+
+-- a scope of which an editor asks for some variables at a time, with their number
+abbrev pub counted_scope : Text → ℕ → Bool → ℕ → Data
+counted_scope name its_reference is_expensive count = object_of (
+    (codes "expensive", boolean is_expensive) ∷
+    (codes "indexedVariables", whole_number count) ∷
+    (codes "name", string name) ∷
+    (codes "variablesReference", whole_number its_reference) ∷ [])
+
+abbrev pub every_scope : ℕ → ℕ → Data
+every_scope symbols words = array (items_of (
+    registers_json ∷
+    scope_of scope.Flags ∷
+    counted_scope (codes "Stack") 6 false words ∷
+    scope_of scope.Devices ∷
+    counted_scope (codes "Symbols") (reference_of scope.Symbols) false symbols ∷
+    counted_scope (codes "Memory") (reference_of scope.Memory) true 65536 ∷ []))
+
+abbrev pub scopes_json : ℕ → ℕ → Data
+scopes_json symbols words = object_of ((codes "scopes", every_scope symbols words) ∷ [])
+
+abbrev pub completion_type : CompletionKind → Text
+completion_type completion.Part = codes "variable"
+completion_type completion.Symbol = codes "reference"
+completion_type completion.Word = codes "keyword"
+
+-- it replaces so many characters from this one on
+abbrev pub completion_json : ℕ → ℕ → Completion → Data
+completion_json start count c = object_of (
+    (codes "label", string c.label) ∷
+    (codes "length", whole_number count) ∷
+    (codes "start", whole_number start) ∷
+    (codes "type", string (completion_type c.kind)) ∷ [])
 
 abbrev pub memory_json : ℕ → Bytes → ℕ → Data
 memory_json address bytes unreadable = object_of (
@@ -211,14 +316,29 @@ memory_json address bytes unreadable = object_of (
 abbrev pub written_json : ℕ → Data
 written_json count = object_of ((codes "bytesWritten", whole_number count) ∷ [])
 
+abbrev pub stack_trace_json : List StackFrame → ℕ → Data
+stack_trace_json frames total = object_of (
+    (codes "stackFrames", list_of frame_json frames) ∷
+    (codes "totalFrames", whole_number total) ∷ [])
+
+-- of a command that the kernel has too
+abbrev pub board_body_json : Body → Data
+board_body_json (board_body.StackTrace frames total) = stack_trace_json frames total
+board_body_json other = body_json other
+
 abbrev pub editor_body_json : EditorBody → Data
-editor_body_json (body.Board b) = body_json b
+editor_body_json (body.Board b) = board_body_json b
 editor_body_json body.Capabilities = capabilities_json
 editor_body_json (body.Breakpoints bs) = one_list (codes "breakpoints") placed_json bs
 editor_body_json (body.DataInfo info) = data_info_json info
 editor_body_json (body.Locations lines) = one_list (codes "breakpoints") line_json lines
 editor_body_json (body.Exception u) = exception_json u
-editor_body_json (body.Evaluation text) = evaluation_json text
+editor_body_json (body.Scopes symbols words) = scopes_json symbols words
+editor_body_json (body.Variables vs) = one_list (codes "variables") variable_json vs
+editor_body_json (body.Evaluation v) = evaluation_json v
+editor_body_json (body.Value v) = value_json v
+editor_body_json (body.Completions cs start count) =
+    one_list (codes "targets") (completion_json start count) cs
 editor_body_json (body.Memory address bytes unreadable) = memory_json address bytes unreadable
 editor_body_json (body.Written count) = written_json count
 editor_body_json (body.Sources paths) = one_list (codes "sources") source_json paths

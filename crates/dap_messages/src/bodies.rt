@@ -6,20 +6,21 @@ ghost use Rattle.dap_answers.specs.Object.{HasMembers};
 ghost use Rattle.dap_answers.specs.Json.{members_from, list_of, one_list, reference, line_json};
 ghost use Rattle.dap_answers.specs.Json.{whole_number};
 ghost use Rattle.dap_messages.specs.Json.{note_text, line_members, address_members, placed_json};
-ghost use Rattle.dap_messages.specs.Json.{last_part, source_json, base64_text};
+ghost use Rattle.dap_messages.specs.Json.{base64_text};
 ghost use Rattle.dap_messages.specs.Json.{data_members, filter_json, filters_json};
 ghost use Rattle.dap_messages.specs.Json.{can, capabilities_json};
-ghost use Rattle.dap_messages.specs.Json.{target_json, evaluation_json, watchable_json, data_info_json};
+ghost use Rattle.dap_messages.specs.Json.{target_json, watchable_json, data_info_json};
 ghost use Rattle.dap_messages.specs.Json.{exception_text, exception_json};
 ghost use Rattle.dap_messages.specs.Json.{memory_json, written_json, editor_body_json};
 
 use crate::message::{
     BreakpointNote, DataInfo, EditorBody, GotoTarget, PlacedBreakpoint, UndefinedOpcode,
 };
+use crate::sources::{board_body, sources};
+use crate::variables::{completions, evaluation, scopes, value_set, variables};
 use base_text::hexadecimal::{push_byte, push_word};
 use base_text::text::Text;
 use base64::engine::general_purpose::STANDARD;
-use dap_answers::bodies::body_json;
 use dap_answers::json::{ToJson, array_of, reference};
 use dap_answers::object::Object;
 use serde_json::Value;
@@ -50,6 +51,7 @@ fn filters(alloc: Global) -> Result<Value, AllocError>
 fn request_capabilities(alloc: Global) -> Object
     ensures { HasMembers result (members_from (
         can (codes "supportsBreakpointLocationsRequest") ∷
+        can (codes "supportsCompletionsRequest") ∷
         can (codes "supportsConfigurationDoneRequest") ∷
         can (codes "supportsDisassembleRequest") ∷
         can (codes "supportsExceptionInfoRequest") ∷
@@ -62,6 +64,7 @@ fn request_capabilities(alloc: Global) -> Object
 {
     Object::new(alloc)
         .flag("supportsBreakpointLocationsRequest", true)
+        .flag("supportsCompletionsRequest", true)
         .flag("supportsConfigurationDoneRequest", true)
         .flag("supportsDisassembleRequest", true)
         .flag("supportsExceptionInfoRequest", true)
@@ -73,20 +76,47 @@ fn request_capabilities(alloc: Global) -> Object
         .flag("supportsWriteMemoryRequest", true)
 }
 
-fn capabilities(alloc: Global) -> Result<Value, AllocError>
-    ensures { IfOk result (λ v. view v ≡ capabilities_json) }
+// Those, and the others that are about breakpoints.
+fn breakpoint_capabilities(alloc: Global) -> Object
+    ensures { HasMembers result (members_from (
+        can (codes "supportsBreakpointLocationsRequest") ∷
+        can (codes "supportsCompletionsRequest") ∷
+        can (codes "supportsConditionalBreakpoints") ∷
+        can (codes "supportsConfigurationDoneRequest") ∷
+        can (codes "supportsDataBreakpointBytes") ∷
+        can (codes "supportsDataBreakpoints") ∷
+        can (codes "supportsDisassembleRequest") ∷
+        can (codes "supportsExceptionInfoRequest") ∷
+        can (codes "supportsFunctionBreakpoints") ∷
+        can (codes "supportsGotoTargetsRequest") ∷
+        can (codes "supportsHitConditionalBreakpoints") ∷
+        can (codes "supportsInstructionBreakpoints") ∷
+        can (codes "supportsLoadedSourcesRequest") ∷
+        can (codes "supportsLogPoints") ∷
+        can (codes "supportsReadMemoryRequest") ∷
+        can (codes "supportsRestartRequest") ∷
+        can (codes "supportsTerminateRequest") ∷
+        can (codes "supportsWriteMemoryRequest") ∷ [])) }
 {
-    let filters = filters(alloc)?;
     request_capabilities(alloc)
-        .value("exceptionBreakpointFilters", filters)
         .flag("supportsConditionalBreakpoints", true)
         .flag("supportsDataBreakpointBytes", true)
         .flag("supportsDataBreakpoints", true)
-        .flag("supportsEvaluateForHovers", true)
         .flag("supportsFunctionBreakpoints", true)
         .flag("supportsHitConditionalBreakpoints", true)
         .flag("supportsInstructionBreakpoints", true)
         .flag("supportsLogPoints", true)
+}
+
+fn capabilities(alloc: Global) -> Result<Value, AllocError>
+    ensures { IfOk result (λ v. view v ≡ capabilities_json) }
+{
+    let filters = filters(alloc)?;
+    breakpoint_capabilities(alloc)
+        .value("exceptionBreakpointFilters", filters)
+        .flag("supportsDelayedStackTraceLoading", true)
+        .flag("supportsEvaluateForHovers", true)
+        .flag("supportsSetExpression", true)
         .flag("supportsSetVariable", true)
         .flag("supportsStepBack", true)
         .flag("supportsSteppingGranularity", true)
@@ -175,43 +205,6 @@ fn locations(alloc: Global, lines: &[u32]) -> Result<Value, AllocError>
     Object::new(alloc).value("breakpoints", lines).finish()
 }
 
-// The part of a path after its last `/`.
-fn last_part(path: &str) -> &str
-    ensures { result.now ≡ last_part path.now }
-{
-    match path.rsplit_once('/') {
-        Some((_, name)) => name,
-        None => path,
-    }
-}
-
-/// The JSON of a source.
-pub fn source(alloc: Global, path: &str) -> Result<Value, AllocError>
-    ensures { IfOk result (λ v. view v ≡ source_json path.now) }
-{
-    Object::new(alloc)
-        .text("name", last_part(path))
-        .text("path", path)
-        .finish()
-}
-
-fn every_source(alloc: Global, paths: &[Text]) -> Result<Value, AllocError>
-    ensures { IfOk result (λ v. view v ≡ list_of source_json paths.now) }
-{
-    let mut values = Vec::new(alloc);
-    for path in paths {
-        values.push(source(alloc, path.as_str())?)?;
-    }
-    Ok(Value::from(values))
-}
-
-fn sources(alloc: Global, paths: &[Text]) -> Result<Value, AllocError>
-    ensures { IfOk result (λ v. view v ≡ one_list (codes "sources") source_json paths.now) }
-{
-    let values = every_source(alloc, paths)?;
-    Object::new(alloc).value("sources", values).finish()
-}
-
 fn access_types(alloc: Global) -> Result<Value, AllocError>
     ensures { IfOk result (λ v. view v ≡ list_of string (codes "write" ∷ [])) }
 {
@@ -266,15 +259,6 @@ fn exception(alloc: Global, undefined: UndefinedOpcode) -> Result<Value, AllocEr
         .text("exceptionId", "UndefinedOpcode")
         .text("description", description.as_str())
         .text("breakMode", "unhandled")
-        .finish()
-}
-
-fn evaluation(alloc: Global, text: &str) -> Result<Value, AllocError>
-    ensures { IfOk result (λ v. view v ≡ evaluation_json text.now) }
-{
-    Object::new(alloc)
-        .text("result", text)
-        .number("variablesReference", 0)
         .finish()
 }
 
@@ -352,13 +336,21 @@ pub fn editor_body_json(alloc: Global, body: &EditorBody) -> Result<Value, Alloc
     ensures { IfOk result (λ v. view v ≡ editor_body_json body.now) }
 {
     match body {
-        EditorBody::Board(body) => body_json(alloc, body),
+        EditorBody::Board(body) => board_body(alloc, body),
         EditorBody::Capabilities => capabilities(alloc),
         EditorBody::Breakpoints(list) => breakpoints(alloc, list.as_slice()),
         EditorBody::DataInfo(info) => data_info(alloc, info),
         EditorBody::Locations(lines) => locations(alloc, lines.as_slice()),
         EditorBody::Exception(undefined) => exception(alloc, *undefined),
-        EditorBody::Evaluation(text) => evaluation(alloc, text.as_str()),
+        EditorBody::Scopes { symbols, words } => scopes(alloc, *symbols, *words),
+        EditorBody::Variables(list) => variables(alloc, list.as_slice()),
+        EditorBody::Evaluation(value) => evaluation(alloc, value),
+        EditorBody::Value(value) => value_set(alloc, value),
+        EditorBody::Completions {
+            items,
+            start,
+            length,
+        } => completions(alloc, items.as_slice(), *start, *length),
         EditorBody::Memory {
             address,
             bytes,

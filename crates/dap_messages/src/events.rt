@@ -13,11 +13,12 @@ ghost use Rattle.dap_messages.specs.Json.{invalidated_json, memory_changed_json}
 ghost use Rattle.dap_messages.specs.Json.{output_json, log_json, changed_json, exited_json};
 ghost use Rattle.dap_messages.specs.Json.{editor_event_json};
 
-use crate::bodies::{exception_text, source};
+use crate::bodies::exception_text;
 use crate::message::{
     BreakpointKind, BreakpointStop, EditorEvent, EditorStop, OutputCategory, PlacedBreakpoint,
     SourcePlace, UndefinedOpcode,
 };
+use crate::sources::source;
 use base_text::hexadecimal::{push_byte, push_word};
 use base_text::latin;
 use base_text::text::Text;

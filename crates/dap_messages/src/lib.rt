@@ -8,3 +8,5 @@ mod events;
 pub mod json;
 pub mod laws;
 pub mod message;
+mod sources;
+mod variables;

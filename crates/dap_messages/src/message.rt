@@ -73,6 +73,41 @@ pub struct DataInfo {
     pub description: Text,
 }
 
+/// A value as an editor shows it.
+#[derive(Drop)]
+pub struct ShownValue {
+    pub text: Text,
+    /// Where a memory window on it begins, if it has one.
+    pub memory: Option<u16>,
+}
+
+/// A variable as an editor shows it (Debug Adapter Protocol, "Variable").
+#[derive(Drop)]
+pub struct EditorVariable {
+    pub name: Text,
+    pub value: ShownValue,
+    /// An expression that has this value, by which it can be watched and changed.
+    pub expression: Option<Text>,
+}
+
+/// What a completion stands for (Debug Adapter Protocol, "CompletionItemType").
+#[derive(Clone, Copy)]
+pub enum CompletionKind {
+    /// A part of the machine: `variable`.
+    Part,
+    /// A symbol of the program: `reference`.
+    Symbol,
+    /// A word of the prompt: `keyword`.
+    Word,
+}
+
+/// A completion of a word (Debug Adapter Protocol, "CompletionItem").
+#[derive(Drop)]
+pub struct Completion {
+    pub label: Text,
+    pub kind: CompletionKind,
+}
+
 /// The body of a successful response.
 #[derive(Drop)]
 pub enum EditorBody {
@@ -88,8 +123,23 @@ pub enum EditorBody {
     Locations(Sequence<u32>),
     /// Of `exceptionInfo`.
     Exception(UndefinedOpcode),
+    /// Of `scopes`: how many symbols there are, and how many words on the stack.
+    Scopes {
+        symbols: u32,
+        words: u32,
+    },
+    /// Of `variables`.
+    Variables(Sequence<EditorVariable>),
     /// Of `evaluate`.
-    Evaluation(Text),
+    Evaluation(ShownValue),
+    /// Of `setVariable` and `setExpression`: the value that is there now.
+    Value(ShownValue),
+    /// Of `completions`. They replace `length` characters of the text from `start` on, which counts from 1.
+    Completions {
+        items: Sequence<Completion>,
+        start: u32,
+        length: u32,
+    },
     /// Of `readMemory`: the bytes from this address on, and how many of those requested don't exist.
     Memory {
         address: u16,

@@ -12,8 +12,7 @@ use Rattle.dap_talk.specs.declared.command.DapCommand.{DapCommand}
 use Rattle.dap_talk.specs.declared.command.DapCommand.TheVariants as command
 use Rattle.dap_board.specs.Bodies.{body_of}
 use Rattle.dap_board.specs.Commands.{with_body, first_line, command_result}
-use Rattle.dap_inspect.specs.declared.fault.EvaluateFault.{EvaluateFault}
-use Rattle.dap_inspect.specs.Expressions.{expression_text}
+use Rattle.dap_editor.specs.declared.request.VariablesCommand.TheVariants as variables
 use Rattle.dap_messages.specs.declared.message.Message.{Message}
 use Rattle.dap_messages.specs.declared.message.UndefinedOpcode.{UndefinedOpcode}
 use Rattle.dap_editor.specs.declared.request.EditorCommand.{EditorCommand}
@@ -28,7 +27,6 @@ use Rattle.dap_program.specs.declared.messages.FollowUp.TheVariants.{Nothing}
 use Rattle.dap_program.specs.declared.messages.RequestId.{RequestId}
 use Rattle.dap_inputs.specs.Inputs.{ends_question}
 use Rattle.dap_session.specs.States.{SessionState, with_waits, after_answer}
-use Rattle.dap_session.specs.Evaluations.{value_told}
 use Rattle.dap_session.specs.Requests as session
 use Rattle.dap_session.specs.Requests.{board_done, explaining, commanding, asking, asking_unless, objection}
 use Rattle.dap_session.specs.Represents as sessions
@@ -65,10 +63,6 @@ left_shown : (o : Result Shown ViewFault) (s : SessionState)
 left_shown (Ok x) s = refl
 left_shown (Err fault) s = refl
 
-left_told : (r : Result Text EvaluateFault) (s : SessionState) → (value_told r s).state ≡ s
-left_told (Ok text) s = refl
-left_told (Err fault) s = refl
-
 left_explained : (o : Option UndefinedOpcode) (s : SessionState) → (explaining o s).state ≡ s
 left_explained None s = refl
 left_explained (Some undefined) s = refl
@@ -91,10 +85,11 @@ left_command other s is = absurd cc
 left_editing : (c : EditorCommand) (found : Option FileText) (s : SessionState) → mid_search_editing c ≡
     mid.Look
     → (asking (asked.Editor c) found s).state ≡ s
-left_editing (editor.Evaluate expression context.Watch) found s is = left_told (expression_text s.board
-    expression) s
-left_editing (editor.Evaluate expression context.Other) found s is = left_told (expression_text s.board
-    expression) s
+left_editing (editor.Evaluate expression context.Watch) found s is = refl
+left_editing (editor.Evaluate expression context.Other) found s is = refl
+left_editing (editor.Variables (variables.Scopes frame)) found s is = refl
+left_editing (editor.Variables (variables.Variables reference start count)) found s is = refl
+left_editing (editor.Variables (variables.Completions text column)) found s is = refl
 left_editing editor.ExceptionInfo found s is = left_explained (exception_of s.settings.program) s
 left_editing (editor.ReadMemory address offset count) found s is = refl
 left_editing (editor.Disassemble address offset instruction_offset count) found s is = refl
@@ -130,6 +125,9 @@ editing_ends_none : (c : EditorCommand) → mid_search_editing c ≡ mid.Look
     → ends_question (asked.Editor c) ≡ false
 editing_ends_none (editor.Evaluate expression context.Watch) is = refl
 editing_ends_none (editor.Evaluate expression context.Other) is = refl
+editing_ends_none (editor.Variables (variables.Scopes frame)) is = refl
+editing_ends_none (editor.Variables (variables.Variables reference start count)) is = refl
+editing_ends_none (editor.Variables (variables.Completions text column)) is = refl
 editing_ends_none editor.ExceptionInfo is = refl
 editing_ends_none (editor.ReadMemory address offset count) is = refl
 editing_ends_none (editor.Disassemble address offset instruction_offset count) is = refl

@@ -71,10 +71,10 @@ none_recorded None (Some r) s represents dead = absurd represents
 none_recorded (Some v) None s represents dead = absurd represents
 
 -- a request that loads is no input
-load_input : (a : RequestContent) (r : Registers) → asks_to_load a ≡ true → input_of a r ≡ None
-load_input (asked.Editor (editor.Launch l)) r is = refl
-load_input (asked.Editor editor.Restart) r is = refl
-load_input other r is = absurd (true≢false (sym is))
+load_input : (a : RequestContent) (b : Board) → asks_to_load a ≡ true → input_of a b ≡ None
+load_input (asked.Editor (editor.Launch l)) b is = refl
+load_input (asked.Editor (editor.Restart l)) b is = refl
+load_input other b is = absurd (true≢false (sym is))
 
 forgets_none : (i : Option Input) → forgets_by i None ≡ false
 forgets_none None = refl
@@ -122,8 +122,8 @@ forgets_begun : (a : RequestContent) (v : RecordedState) (t : Turn) (rec : Optio
 forgets_begun a v t rec true could loads_is could_is either represents =
     ap (λ i. forgets_by i v.recording) (made_none (is_success t.outcome)) ∙ none_forgotten v.recording
   where
-    made_none : (b : Bool) → (if b then input_of a v.session.board.machine.regs else None) ≡ None
-    made_none true = load_input a v.session.board.machine.regs loads_is
+    made_none : (b : Bool) → (if b then input_of a v.session.board else None) ≡ None
+    made_none true = load_input a v.session.board loads_is
     made_none false = refl
 
     none_forgotten : (o : Option Recording) → forgets_by None o ≡ false
@@ -190,7 +190,7 @@ refused_by (Refused text) is = (text, refl)
 pub after_made : (a : RequestContent) (found : Option FileText) (v : RecordedState) (done : Bool)
     → is_success (turn_for a found v).outcome ≡ done
     → ((asks_to_load a ≡ false) × (can_go_back v.session ≡ true)) ⊎ (done ≡ false)
-    → IsAfterInputIf (if done then input_of a v.session.board.machine.regs else None) v.session
+    → IsAfterInputIf (if done then input_of a v.session.board else None) v.session
     (turn_for a found v).state
 after_made a found v true success known = λ can. elim known [
   | inl so ↦
@@ -236,7 +236,7 @@ other_noted a found v c before messages session done made result known answered 
     let success = done_is ∙ told_success c t messages answered.messages_are in
     let made_so : made ≡ input_made a v.session t =
     made_is ∙ (λ i. if success i then known.input i else None) in
-    let input_so : made ≡ (if done then input_of a v.session.board.machine.regs else None) =
+    let input_so : made ≡ (if done then input_of a v.session.board else None) =
     made_is ∙ (λ i. if done then known.input i else None) in
     let begins_so : begins a v.session t ≡ false =
     sym (begins_is a found v c before messages session done false known answered done_is (sym may)) in

@@ -25,6 +25,7 @@ use Rattle.dap_search.specs.Goals.{is_goal, goal_below}
 use Rattle.dap_search.specs.Searches.{counts_hits}
 use Rattle.dap_slice.specs.Stops.{back_ids}
 use Rattle.dap_program.specs.Slices.{met_event}
+use Rattle.dap_variables.specs.Answers.{done_value}
 use Rattle.dap_program.specs.declared.messages.FollowUp.TheVariants.{Nothing, Stopped}
 use Rattle.dap_program.specs.Refusals.{board_refusal}
 use Rattle.dap_session.specs.States.{SessionState}
@@ -119,8 +120,8 @@ found_event Breakpoint s =
 
 -- a line of the prompt is answered by a text
 abbrev pub body_for : Back → EditorBody
-body_for (back.Steps n) = body.Evaluation (codes "ok")
-body_for back.Start = body.Evaluation (codes "ok")
+body_for (back.Steps n) = body.Evaluation done_value
+body_for back.Start = body.Evaluation done_value
 body_for other = body.Board Empty
 
 pub record RecordedReply : Type 0 where

@@ -6,6 +6,7 @@ use Rattle.dap_talk.specs.declared.command.DapCommand.TheVariants as command
 use Rattle.dap_editor.specs.declared.request.EditorCommand.{EditorCommand}
 use Rattle.dap_editor.specs.declared.request.EditorCommand.TheVariants as editor
 use Rattle.dap_editor.specs.declared.request.EvaluateContext.TheVariants as context
+use Rattle.dap_editor.specs.declared.request.VariablesCommand.TheVariants as variables
 use Rattle.dap_editor.specs.declared.request.RequestContent.{RequestContent}
 use Rattle.dap_editor.specs.declared.request.RequestContent.TheVariants as asked
 use Rattle.dap_record.specs.declared.mid_search.MidSearch.{MidSearch}
@@ -25,6 +26,9 @@ mid_search_command other = mid.Other
 abbrev pub mid_search_editing : EditorCommand → MidSearch
 mid_search_editing (editor.Evaluate expression context.Watch) = mid.Look
 mid_search_editing (editor.Evaluate expression context.Other) = mid.Look
+mid_search_editing (editor.Variables (variables.Scopes frame)) = mid.Look
+mid_search_editing (editor.Variables (variables.Variables reference start count)) = mid.Look
+mid_search_editing (editor.Variables (variables.Completions text column)) = mid.Look
 mid_search_editing editor.ExceptionInfo = mid.Look
 mid_search_editing (editor.ReadMemory address offset count) = mid.Look
 mid_search_editing (editor.Disassemble address offset instruction_offset count) = mid.Look

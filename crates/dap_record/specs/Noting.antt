@@ -30,7 +30,7 @@ IsAfterInputIf i before s = can_go_back s ≡ true → SameParts (after_input_if
 pub record IsBefore (a : RequestContent) (v : RecordedState) (before : Before) : Type 0 where
   pub could : before.could ≡ can_go_back v.session
   pub loads : before.loads ≡ asks_to_load a
-  pub input : before.input ≡ input_of a v.session.board.machine.regs
+  pub input : before.input ≡ input_of a v.session.board
   pub recording : RepresentsRecordingIf before.recording v.recording v.session
 
 -- the session has answered this request by these messages

@@ -82,7 +82,7 @@ begins a s t = is_success t.outcome && (asks_to_load a || not (can_go_back s))
 
 -- what a request that is refused changes by hand is nothing
 abbrev pub input_made : RequestContent → SessionState → Turn → Option Input
-input_made a s t = if is_success t.outcome then input_of a s.board.machine.regs else None
+input_made a s t = if is_success t.outcome then input_of a s.board else None
 
 -- the recording after a request
 abbrev pub recording_after : RequestContent → SessionState → Turn → Option Recording → Option Recording

@@ -22,7 +22,7 @@ pub(crate) fn asks_to_load(asked: &RequestContent) -> bool
 {
     matches!(
         asked,
-        RequestContent::Editor(EditorCommand::Launch(_) | EditorCommand::Restart)
+        RequestContent::Editor(EditorCommand::Launch(_) | EditorCommand::Restart(_))
     )
 }
 

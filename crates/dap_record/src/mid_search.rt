@@ -2,7 +2,7 @@
 ghost use Rattle.std.specs.Prelude.{◌≡◌};
 ghost use Rattle.dap_record.specs.MidSearch as searching;
 
-use dap_editor::request::{EditorCommand, EvaluateContext, RequestContent};
+use dap_editor::request::{EditorCommand, EvaluateContext, RequestContent, VariablesCommand};
 use dap_talk::command::DapCommand;
 
 /// What a request is while a search goes on.
@@ -42,6 +42,11 @@ fn mid_search_editing(command: &EditorCommand) -> MidSearch
             expression: _,
             context: EvaluateContext::Watch | EvaluateContext::Other,
         }
+        | EditorCommand::Variables(
+            VariablesCommand::Scopes { .. }
+            | VariablesCommand::Variables { .. }
+            | VariablesCommand::Completions { .. },
+        )
         | EditorCommand::ExceptionInfo
         | EditorCommand::ReadMemory { .. }
         | EditorCommand::Disassemble { .. }

@@ -23,7 +23,7 @@ use crate::travel::{Departure, go_back};
 use base_text::sequence::Sequence;
 use dap_answers::answer::StopReason;
 use dap_editor::request::EditorRequest;
-use dap_inputs::inputs::{as_meant, input_of};
+use dap_inputs::inputs::as_meant;
 use dap_launch::file::FileText;
 use dap_launch::reply::{Reply, accept, refuse};
 use dap_messages::message::{EditorStop, Message};
@@ -320,7 +320,7 @@ impl RecordedSession {
     {
         let could = self.session.can_go_back();
         let loads = asks_to_load(&request.asked);
-        let input = input_of(alloc, &request.asked, self.session.registers())?;
+        let input = self.session.input_of(alloc, &request.asked)?;
         Ok(Before {
             could,
             loads,

@@ -13,13 +13,13 @@ ghost use Rattle.dap_record.specs.Represents.{RepresentsRecording, IsRecorded, G
 use crate::back::Back;
 use crate::recording::RunRecording;
 use crate::search::GoalSearch;
-use base_text::text::Text;
 use dap_answers::answer::{Body, StopReason};
 use dap_launch::reply::{Reply, succeed};
 use dap_messages::message::{EditorBody, EditorStop};
 use dap_program::messages::FollowUp;
 use dap_search::goal::Goal;
 use dap_session::session::Session;
+use dap_variables::answer::done_value;
 use lab_shown::step::Granularity;
 use std::alloc::{AllocError, Global};
 
@@ -36,8 +36,8 @@ fn body_for(alloc: Global, back: Back) -> Result<EditorBody, AllocError>
 {
     match back {
         Back::Steps(_) | Back::Start => {
-            let text = Text::copy_of(alloc, "ok")?;
-            Ok(EditorBody::Evaluation(text))
+            let done = done_value(alloc)?;
+            Ok(EditorBody::Evaluation(done))
         }
         Back::Step(_) | Back::Continue | Back::Unclear => Ok(EditorBody::Board(Body::Empty)),
     }

@@ -18,10 +18,10 @@ pub struct HostFiles<'a, R> {
 }
 
 // What an open file has. Of a file that is too long no more is read than shows that.
-fn read_open<F: Read + Drop>(alloc: Global, file: F) -> Result<FileText, AllocError> {
+fn read_open<F: Read + Drop>(alloc: Global, path: &str, file: F) -> Result<FileText, AllocError> {
     let most = TEXT_SIZE as u64 + 1;
     match read_all(alloc, &mut StdInlet::new(file.take(most))) {
-        Ok(bytes) => Ok(text_of(bytes)),
+        Ok(bytes) => Ok(text_of(path, bytes)),
         Err(Status::OutOfMemory) => Err(AllocError),
         Err(_) => Ok(FileText::Unreadable),
     }
@@ -60,7 +60,7 @@ impl<'a, R: Files> ProgramFiles for HostFiles<'a, R> {
             Err(error) => return found_by_error(error),
         }
         match fs::open(self.rt, path) {
-            Ok(file) => read_open(alloc, file),
+            Ok(file) => read_open(alloc, path, file),
             Err(error) => found_by_error(error),
         }
     }

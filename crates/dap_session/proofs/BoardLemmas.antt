@@ -24,6 +24,9 @@ use Rattle.lab_core.specs.Events.{after_end}
 use Rattle.lab_core.specs.Changes.{after_write}
 use Rattle.lab_core.specs.Slices.{after_steps}
 use Rattle.dap_editor.specs.declared.request.Launch.{Launch}
+use Rattle.dap_history.specs.declared.input.Input.{Input}
+use Rattle.dap_history.specs.declared.input.Input.TheVariants as input
+use Rattle.dap_history.specs.Runs.{board_of, after_input}
 use Rattle.dap_program.specs.declared.load.LoadFault.{LoadFault}
 use Rattle.dap_program.specs.Boards.{board_after, after, begin_run}
 use Rattle.dap_program.specs.Breakpoints.{board_armed_at}
@@ -136,6 +139,18 @@ kept_written start bytes b = record { run = refl; is_attached = refl }
 pub kept_typed : (input : Text) (b : Board) → SameRun b (with_input input b)
 kept_typed [] b = same b
 kept_typed (character ∷ input) b = record { run = refl; is_attached = refl }
+
+kept_event : (b : Board) (g : EventResult) → KeepsRun b g → SameRun b (board_of b g)
+kept_event b (Ok (a, b')) kept = kept
+kept_event b (Err f) kept = same b
+
+-- an input of the run
+pub kept_input : (i : Input) (b : Board) → SameRun b (after_input i b)
+kept_input (input.Typed bytes) b = record { run = refl; is_attached = refl }
+kept_input (input.Switches byte) b = record { run = refl; is_attached = refl }
+kept_input (input.Press n) b = kept_event b (result_of (event.Press n) b) (kept_press n b)
+kept_input (input.Registers registers) b = record { run = refl; is_attached = refl }
+kept_input (input.Write start bytes) b = record { run = refl; is_attached = refl }
 
 -- ---- steps
 

@@ -44,8 +44,10 @@ use Rattle.dap_editor.specs.declared.request.EvaluateContext.TheVariants as cont
 use Rattle.dap_editor.specs.declared.request.RequestContent.{RequestContent}
 use Rattle.dap_editor.specs.declared.request.RequestContent.TheVariants as asked
 use Rattle.dap_editor.specs.declared.request.SignedOffset.{SignedOffset}
-use Rattle.dap_inspect.specs.declared.fault.EvaluateFault.{EvaluateFault}
-use Rattle.dap_inspect.specs.Expressions.{expression_text}
+use Rattle.dap_look.specs.declared.change.SetValue.{SetValue}
+use Rattle.dap_editor.specs.declared.request.VariablesCommand.{VariablesCommand}
+use Rattle.dap_editor.specs.declared.request.VariablesCommand.TheVariants as variables
+use Rattle.dap_variables.specs.Answers.{value_set}
 use Rattle.dap_points.specs.Points.{has_place}
 use Rattle.dap_program.specs.declared.messages.FollowUp.{FollowUp}
 use Rattle.dap_program.specs.declared.messages.FollowUp.TheVariants as follow
@@ -66,7 +68,7 @@ use Rattle.dap_launch.specs.Programs.{program_at}
 use Rattle.dap_session.specs.Breakpoints.{armed_where}
 use Rattle.dap_session.specs.Evaluations.{command_reply}
 use Rattle.dap_inputs.specs.Prompt.{behind, byte_spelled, byte_command, command_with}
-use Rattle.dap_session.specs.Evaluations.{value_told, prompting, evaluating}
+use Rattle.dap_session.specs.Evaluations.{prompting, evaluating, setting, handling_by, handling}
 use Rattle.dap_session.specs.Launches.{beginning_in, beginning_where}
 use Rattle.dap_session.specs.Memory.{is_stopped, writing_from, writing}
 use Rattle.dap_session.specs.Targets.{going_to}
@@ -74,6 +76,7 @@ use Rattle.dap_session.specs.Requests.{board_done, finish_done, resuming_from, e
 use Rattle.dap_session.specs.Requests.{resetting, commanding, editing, objection, asking}
 use Rattle.dap_session.specs.Requests.{asking_unless, turn}
 use Rattle.dap_session.specs.Laws.{SameParts, is_invalidated, IsTold, IsWatched, IsLook}
+use Rattle.dap_session.specs.Laws.{IsShown}
 
 -- ---- what leaves the machine, the devices and the trace
 
@@ -272,10 +275,6 @@ command_told (command.BoardAliases aliases) s =
 
 -- ---- evaluations
 
-value_kept : (r : Result Text EvaluateFault) (s : SessionState) → Tells s (value_told r s)
-value_kept (Ok text) s = λ w. inl (same s.board)
-value_kept (Err f) s = λ w. inl (same s.board)
-
 reply_told : (p : Performed) (s : SessionState) → Tells s (command_reply p s)
 reply_told (Ok (b, board)) s = λ w. inr (told_change s w.supported w.live)
 reply_told (Err f) s = λ w. inl (same s.board)
@@ -291,14 +290,27 @@ prompt_told (Some n) press line expression s = byte_told _ (byte_spelled n) expr
 prompt_told None (Some n) line expression s = byte_told _ (byte_spelled n) expression s
 prompt_told None None (Some line) expression s =
     reply_told (command_result (command.BoardType (line ++ codes "\n")) s.board) s
-prompt_told None None None expression s = value_kept (expression_text s.board expression) s
+prompt_told None None None expression s = λ w. inl (same s.board)
 
 evaluated : (expression : Text) (c : EvaluateContext) (s : SessionState) → Tells s (evaluating expression c s)
 evaluated expression context.Repl s =
     prompt_told (behind (codes "switches ") expression) (behind (codes "press ") expression)
     (behind (codes "type ") expression) expression s
-evaluated expression context.Watch s = value_kept (expression_text s.board expression) s
-evaluated expression context.Other s = value_kept (expression_text s.board expression) s
+evaluated expression context.Watch s = λ w. inl (same s.board)
+evaluated expression context.Other s = λ w. inl (same s.board)
+
+value_changed : (r : Result SetValue Text) (s : SessionState) → Tells s (setting r s)
+value_changed (Ok set) s = λ w. inr (told_change s w.supported w.live)
+value_changed (Err message) s = λ w. inl (same s.board)
+
+handled_by : (o : Option (Result SetValue Text)) (c : VariablesCommand) (s : SessionState)
+    → Tells s (handling_by o c s)
+handled_by (Some r) c s =
+    either (is_stopped s.board.run) s _ _ (value_changed r s) (λ w. inl (same s.board))
+handled_by None c s = λ w. inl (same s.board)
+
+handled : (c : VariablesCommand) (s : SessionState) → Tells s (handling c s)
+handled c s = handled_by (value_set c s.board) c s
 
 -- ---- commands of editors
 
@@ -330,6 +342,7 @@ edit_told (editor.SetFunctionBreakpoints functions) s =
     λ w. inl (kept_where s.settings.program _ s.board)
 edit_told editor.ExceptionInfo s = explained (exception_of s.settings.program) s
 edit_told (editor.Evaluate expression c) s = evaluated expression c s
+edit_told (editor.Variables c) s = handled c s
 edit_told (editor.WriteMemory address offset bytes) s = written address offset bytes s
 edit_told (editor.Goto target) s = gone target s
 edit_told other s = λ w. inl (same s.board)
@@ -342,7 +355,7 @@ watches a s r w = record { supported = w.supported; live = w.live; program = w.p
 told_asking : (a : RequestContent) (found : Option FileText) (s : SessionState)
     → IsWatched a s (asking a found s).state → IsTold s (asking a found s).events (asking a found s).state
 told_asking (asked.Editor (editor.Launch l)) found s w = absurd (true≢false w.loads)
-told_asking (asked.Editor editor.Restart) found s w = absurd (true≢false w.loads)
+told_asking (asked.Editor (editor.Restart l)) found s w = absurd (true≢false w.loads)
 told_asking (asked.Board c) found s w = command_told c s (watches _ s (commanding c s) w)
 told_asking (asked.Faulty f) found s w = inl (same s.board)
 told_asking (asked.Editor c) found s w = edit_told c s (watches _ s (editing c s) w)
@@ -366,9 +379,12 @@ quiet_done : (p : Performed) (s : SessionState) → events_of (board_done p foll
 quiet_done (Ok (b, board)) s = refl
 quiet_done (Err f) s = refl
 
-quiet_value : (r : Result Text EvaluateFault) (s : SessionState) → events_of (value_told r s).follow ≡ []
-quiet_value (Ok text) s = refl
-quiet_value (Err f) s = refl
+quiet_shown : (c : VariablesCommand) (s : SessionState) → IsShown c → events_of (handling c s).follow ≡ []
+quiet_shown (variables.Scopes frame) s is = refl
+quiet_shown (variables.Variables reference start count) s is = refl
+quiet_shown (variables.Completions text column) s is = refl
+quiet_shown (variables.SetVariable reference name value) s is = absurd is
+quiet_shown (variables.SetExpression expression value) s is = absurd is
 
 quiet_explained : (o : Option UndefinedOpcode) (s : SessionState) → events_of (explaining o s).follow ≡ []
 quiet_explained None s = refl
@@ -387,10 +403,9 @@ quiet_command other s is = absurd is
 quiet_asking : (a : RequestContent) (found : Option FileText) (s : SessionState) → IsLook a
     → (asking a found s).events ≡ []
 quiet_asking (asked.Board c) found s is = quiet_command c s is
-quiet_asking (asked.Editor (editor.Evaluate expression context.Watch)) found s is =
-    quiet_value (expression_text s.board expression) s
-quiet_asking (asked.Editor (editor.Evaluate expression context.Other)) found s is =
-    quiet_value (expression_text s.board expression) s
+quiet_asking (asked.Editor (editor.Evaluate expression context.Watch)) found s is = refl
+quiet_asking (asked.Editor (editor.Evaluate expression context.Other)) found s is = refl
+quiet_asking (asked.Editor (editor.Variables c)) found s is = quiet_shown c s is
 quiet_asking (asked.Editor editor.ExceptionInfo) found s is =
     quiet_explained (exception_of s.settings.program) s
 quiet_asking (asked.Editor (editor.ReadMemory address offset count)) found s is = refl

@@ -42,8 +42,9 @@ use Rattle.dap_editor.specs.declared.request.SignedOffset.{SignedOffset}
 use Rattle.dap_history.specs.declared.input.Input.{Input}
 use Rattle.dap_history.specs.declared.input.Input.TheVariants as input
 use Rattle.dap_history.specs.Runs.{board_of, after_input}
-use Rattle.dap_inspect.specs.declared.fault.EvaluateFault.{EvaluateFault}
-use Rattle.dap_inspect.specs.Expressions.{expression_text}
+use Rattle.dap_look.specs.declared.change.SetValue.{SetValue}
+use Rattle.dap_editor.specs.declared.request.VariablesCommand.{VariablesCommand}
+use Rattle.dap_variables.specs.Answers.{value_set}
 use Rattle.dap_points.specs.Points.{has_place}
 use Rattle.dap_program.specs.declared.messages.FollowUp.{FollowUp}
 use Rattle.dap_program.specs.declared.messages.FollowUp.TheVariants as follow
@@ -59,9 +60,9 @@ use Rattle.dap_session.specs.Turns.{Turn, Replied, turn_of, change_follow}
 use Rattle.dap_launch.specs.Programs.{program_at}
 use Rattle.dap_session.specs.Evaluations.{command_reply}
 use Rattle.dap_inputs.specs.Prompt.{behind, byte_spelled, byte_command, command_with}
-use Rattle.dap_session.specs.Evaluations.{value_told, prompting, evaluating}
+use Rattle.dap_session.specs.Evaluations.{prompting, evaluating, setting, handling_by, handling}
 use Rattle.dap_inputs.specs.Inputs.{place_input, valued_input, named_input, command_input, prompt_input}
-use Rattle.dap_inputs.specs.Inputs.{bytes_input, input_of, after_input_if}
+use Rattle.dap_inputs.specs.Inputs.{bytes_input, set_input, input_of, after_input_if}
 use Rattle.dap_session.specs.Launches.{beginning_in, beginning_where}
 use Rattle.dap_session.specs.Memory.{is_stopped, writing_from, writing}
 use Rattle.dap_session.specs.Targets.{going_to}
@@ -247,10 +248,6 @@ command_made (command.BoardAliases aliases) s = aliases_made s.board.run _ (chan
 
 -- ---- evaluations
 
-value_made : (r : Result Text EvaluateFault) (s : SessionState) → Makes None s (value_told r s)
-value_made (Ok text) s = λ l. same s.board
-value_made (Err f) s = λ l. same s.board
-
 switches_made : (o : Option ℕ) (expression : Text) (s : SessionState)
     → Makes (prompt_input (byte_command (λ value. command.BoardSwitches value) o) s.board.machine.regs) s
     (prompting (byte_command (λ value. command.BoardSwitches value) o) expression s)
@@ -281,16 +278,32 @@ prompt_made : (switches press line : Option Text) (expression : Text) (s : Sessi
 prompt_made (Some n) press line expression s = switches_made (byte_spelled n) expression s
 prompt_made None (Some n) line expression s = press_made (byte_spelled n) expression s
 prompt_made None None (Some line) expression s = type_made (line ++ codes "\n") s
-prompt_made None None None expression s = value_made (expression_text s.board expression) s
+prompt_made None None None expression s = λ l. same s.board
 
 evaluated_made : (expression : Text) (c : EvaluateContext) (s : SessionState)
-    → Makes (input_of (asked.Editor (editor.Evaluate expression c)) s.board.machine.regs) s
-    (evaluating expression c s)
+    → Makes (input_of (asked.Editor (editor.Evaluate expression c)) s.board) s (evaluating expression c s)
 evaluated_made expression context.Repl s =
     prompt_made (behind (codes "switches ") expression) (behind (codes "press ") expression)
     (behind (codes "type ") expression) expression s
-evaluated_made expression context.Watch s = value_made (expression_text s.board expression) s
-evaluated_made expression context.Other s = value_made (expression_text s.board expression) s
+evaluated_made expression context.Watch s = λ l. same s.board
+evaluated_made expression context.Other s = λ l. same s.board
+
+-- ---- variables
+
+setting_made : (r : Result SetValue Text) (s : SessionState) → Makes (set_input (Some r)) s (setting r s)
+setting_made (Ok set) s = λ l. same (after_input set.input s.board)
+setting_made (Err message) s = λ l. absurd (true≢false (sym l.done))
+
+handled_by_made : (o : Option (Result SetValue Text)) (c : VariablesCommand) (s : SessionState)
+    → Makes (set_input o) s (handling_by o c s)
+handled_by_made (Some r) c s =
+    either (is_stopped s.board.run) (set_input (Some r)) s _ _ (setting_made r s)
+    (λ l. absurd (true≢false (sym l.done)))
+handled_by_made None c s = λ l. same s.board
+
+handled_made : (c : VariablesCommand) (s : SessionState)
+    → Makes (set_input (value_set c s.board)) s (handling c s)
+handled_made c s = handled_by_made (value_set c s.board) c s
 
 -- ---- commands of editors
 
@@ -318,16 +331,17 @@ explained_made None s = λ l. same s.board
 explained_made (Some undefined) s = λ l. same s.board
 
 memory_made : (c : EditorCommand) (s : SessionState)
-    → Makes (input_of (asked.Editor c) s.board.machine.regs) s (editing_memory c s)
+    → Makes (input_of (asked.Editor c) s.board) s (editing_memory c s)
 memory_made (editor.ReadMemory address offset count) s = λ l. same s.board
 memory_made (editor.WriteMemory address offset bytes) s = writing_made address offset bytes s
 memory_made (editor.Disassemble address offset instruction_offset count) s = λ l. same s.board
 memory_made (editor.GotoTargets path line) s = λ l. same s.board
 memory_made (editor.Goto target) s = goto_made target s
+memory_made (editor.Variables c) s = handled_made c s
 memory_made other s = λ l. absurd (true≢false (sym l.done))
 
 edit_made : (c : EditorCommand) (s : SessionState)
-    → Makes (input_of (asked.Editor c) s.board.machine.regs) s (editing c s)
+    → Makes (input_of (asked.Editor c) s.board) s (editing c s)
 edit_made (editor.Initialize supported) s =
     either s.settings.is_initialized None s _ _ (λ l. same s.board) (λ l. same s.board)
 edit_made editor.Terminate s =
@@ -351,12 +365,12 @@ edit_made other s = memory_made other s
 
 abbrev MakesBy : RequestContent → SessionState → Turn → Type 0
 MakesBy a s t = RunLasts s t
-    → SameParts (after_input_if (input_of a s.board.machine.regs) s.board) t.state.board
+    → SameParts (after_input_if (input_of a s.board) s.board) t.state.board
 
 made_asking : (a : RequestContent) (found : Option FileText) (s : SessionState) → asks_to_load a ≡ false
     → MakesBy a s (asking a found s)
 made_asking (asked.Editor (editor.Launch l)) found s loads = absurd (true≢false loads)
-made_asking (asked.Editor editor.Restart) found s loads = absurd (true≢false loads)
+made_asking (asked.Editor (editor.Restart l)) found s loads = absurd (true≢false loads)
 made_asking (asked.Board c) found s loads = command_made c s
 made_asking (asked.Faulty f) found s loads = λ l. same s.board
 made_asking (asked.Editor c) found s loads = edit_made c s

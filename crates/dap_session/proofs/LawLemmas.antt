@@ -1,6 +1,6 @@
 -- What goes out, of whom and of what.
 use Rattle.std.proofs.Common.{◌≡◌, ◌∙◌, ℕ, List, [], ◌∷◌, ◌++◌, Bool, true, false, Option, Some, None, Result}
-use Rattle.std.proofs.Common.{Ok, Err, refl, sym, ap, inl, inr}
+use Rattle.std.proofs.Common.{Ok, Err, unwrap_or, refl, sym, ap, inl, inr}
 use Rattle.std.proofs.lemmas.Bool.{cases_Bool}
 use Rattle.std.proofs.lemmas.Grind.{flat_map-append}
 use Rattle.std.proofs.lemmas.List.Elements.{filter_map-append}
@@ -24,8 +24,6 @@ use Rattle.dap_editor.specs.declared.request.RequestContent.TheVariants as asked
 use Rattle.dap_editor.specs.declared.request.EditorCommand.TheVariants as editor
 use Rattle.dap_editor.specs.declared.request.EvaluateContext.TheVariants as context
 use Rattle.dap_editor.specs.declared.request.Launch.{Launch as LaunchOf}
-use Rattle.dap_inspect.specs.declared.fault.EvaluateFault.{EvaluateFault}
-use Rattle.dap_inspect.specs.Expressions.{expression_text}
 use Rattle.dap_program.specs.declared.load.LoadFault.{LoadFault}
 use Rattle.dap_program.specs.declared.load.LoadFault.TheVariants as fault
 use Rattle.dap_program.specs.declared.messages.FollowUp.{FollowUp}
@@ -51,10 +49,9 @@ use Rattle.dap_program.proofs.SliceLemmas.{told-append}
 use Rattle.dap_launch.specs.declared.file.FileText.{FileText}
 use Rattle.dap_launch.specs.declared.program.Program.{Program}
 use Rattle.dap_session.specs.States.{SessionState, wants_slice}
-use Rattle.dap_session.specs.Evaluations.{value_told}
 use Rattle.dap_program.specs.declared.end.EndPolicy.{EndPolicy}
 use Rattle.dap_program.specs.declared.end.EndPolicy.TheVariants.{Exit, Hold}
-use Rattle.dap_launch.specs.Files.{text_in}
+use Rattle.dap_launch.specs.Files.{program_text}
 use Rattle.dap_launch.specs.Lives.{held_ends}
 use Rattle.dap_program.specs.Ends.{policy_at}
 use Rattle.dap_editor.specs.declared.request.ExceptionFilters.{ExceptionFilters}
@@ -166,24 +163,25 @@ silent_loading (Ok (b, start)) o l text s =
 silent_loading (Err f) o l text s = silent_load l.program text f
 
 silent_text : (t : Result Text Text) (o : LoadReason) (l : LaunchOf) (s : SessionState)
-    → IsSilent (by_text t s (λ text. loading o l text s)).events
+    → IsSilent (by_text t o l s).events
 silent_text (Ok text) o l s = silent_loading (load_result l text) o l text s
 silent_text (Err message) o l s = refl
 
 silent_launch : (p : Option Program) (l : LaunchOf) (found : Option FileText) (s : SessionState)
     → IsSilent (launching_over p l found s).events
-silent_launch None l found s = silent_text (text_in found) Launch l s
+silent_launch None l found s = silent_text (program_text l found) Launch l s
 silent_launch (Some p) l found s = refl
 
-silent_restart : (p : Option Program) (found : Option FileText) (s : SessionState)
-    → IsSilent (restarting_of p found s).events
-silent_restart None found s = refl
-silent_restart (Some p) found s = silent_text (text_in found) Restart p.launch s
+silent_restart : (p : Option Program) (l : Option LaunchOf) (found : Option FileText) (s : SessionState)
+    → IsSilent (restarting_of p l found s).events
+silent_restart None l found s = refl
+silent_restart (Some p) l found s =
+    let launch = unwrap_or l p.launch in silent_text (program_text launch found) Restart launch s
 
 silent_asking : (a : RequestContent) (found : Option FileText) (s : SessionState)
     → IsSilent (asking a found s).events
 silent_asking (asked.Editor (editor.Launch l)) found s = silent_launch s.settings.program l found s
-silent_asking (asked.Editor editor.Restart) found s = silent_restart s.settings.program found s
+silent_asking (asked.Editor (editor.Restart l)) found s = silent_restart s.settings.program l found s
 silent_asking (asked.Board c) found s = silent_follow (replying (asked.Board c) s).follow
 silent_asking (asked.Faulty f) found s = silent_follow (replying (asked.Faulty f) s).follow
 silent_asking other found s = silent_follow (replying other s).follow
@@ -280,15 +278,11 @@ shown_played (input ∷ inputs) s =
 
 -- ---- looks
 
-kept_value : (r : Result Text EvaluateFault) (s : SessionState) → (value_told r s).state.board ≡ s.board
-kept_value (Ok text) s = refl
-kept_value (Err f) s = refl
-
 kept_unless : (o : Option Text) (expression : Text) (found : Option FileText) (s : SessionState)
     → (asking_unless o (asked.Editor (editor.Evaluate expression context.Other)) found s).state.board
     ≡ s.board
 kept_unless (Some text) expression found s = refl
-kept_unless None expression found s = kept_value (expression_text s.board expression) s
+kept_unless None expression found s = refl
 
 pub kept_look : (expression : Text) (found : Option FileText) (s : SessionState)
     → (turn (asked.Editor (editor.Evaluate expression context.Other)) found s).state.board ≡ s.board

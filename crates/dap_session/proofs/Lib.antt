@@ -1,3 +1,4 @@
+pub mod EditLemmas
 pub mod LoadLemmas
 pub mod LawLemmas
 pub mod SessionLemmas

@@ -1,6 +1,6 @@
 -- What is refused leaves the board, the program and the breakpoints.
 use Rattle.std.proofs.Common.{ℕ, List, ◌++◌, Bool, true, false, Option, Some, None, Result, Ok, Err}
-use Rattle.std.proofs.Common.{codes, if◌then◌else◌, refl}
+use Rattle.std.proofs.Common.{codes, if◌then◌else◌, unwrap_or, refl}
 use Rattle.base_text.specs.Bytes.{Bytes, Text}
 use Rattle.lab_core.specs.declared.answer.End.{End}
 use Rattle.lab_core.specs.Board.{Board}
@@ -17,8 +17,9 @@ use Rattle.dap_editor.specs.declared.request.Launch.{Launch as LaunchOf}
 use Rattle.dap_editor.specs.declared.request.RequestContent.{RequestContent}
 use Rattle.dap_editor.specs.declared.request.RequestContent.TheVariants as asked
 use Rattle.dap_editor.specs.declared.request.SignedOffset.{SignedOffset}
-use Rattle.dap_inspect.specs.declared.fault.EvaluateFault.{EvaluateFault}
-use Rattle.dap_inspect.specs.Expressions.{expression_text}
+use Rattle.dap_look.specs.declared.change.SetValue.{SetValue}
+use Rattle.dap_editor.specs.declared.request.VariablesCommand.{VariablesCommand}
+use Rattle.dap_variables.specs.Answers.{value_set}
 use Rattle.dap_points.specs.Points.{has_place}
 use Rattle.dap_program.specs.declared.load.LoadFault.{LoadFault}
 use Rattle.dap_program.specs.declared.messages.FollowUp.{FollowUp}
@@ -31,14 +32,14 @@ use Rattle.dap_launch.specs.declared.file.FileText.{FileText}
 use Rattle.dap_launch.specs.declared.program.Phase.{Phase}
 use Rattle.dap_launch.specs.declared.program.Phase.TheVariants as phase
 use Rattle.dap_launch.specs.declared.program.Program.{Program}
-use Rattle.dap_launch.specs.Files.{text_in}
+use Rattle.dap_launch.specs.Files.{program_text}
 use Rattle.dap_launch.specs.Lives.{end_of, exception_of}
 use Rattle.dap_session.specs.States.{SessionState}
 use Rattle.dap_session.specs.Turns.{Replied, Turn}
 use Rattle.dap_session.specs.Breakpoints.{setting_lines}
 use Rattle.dap_session.specs.Evaluations.{command_reply}
 use Rattle.dap_inputs.specs.Prompt.{behind, byte_spelled, byte_command, command_with}
-use Rattle.dap_session.specs.Evaluations.{value_told, prompting, evaluating}
+use Rattle.dap_session.specs.Evaluations.{prompting, evaluating, setting, handling_by}
 use Rattle.dap_session.specs.Launches.{beginning_in, beginning_where, loading_as, by_text, loading}
 use Rattle.dap_session.specs.Launches.{launching_over, restarting_of}
 use Rattle.dap_session.specs.Memory.{is_stopped, writing_from, writing}
@@ -110,10 +111,6 @@ command_left other s = done (command_result other s.board) _ s
 
 -- ---- evaluations
 
-value_left : (r : Result Text EvaluateFault) (s : SessionState) → Refuses s (value_told r s)
-value_left (Ok text) s = λ text is. absurd cc
-value_left (Err f) s = λ text is. same s
-
 reply_left : (p : Performed) (s : SessionState) → Refuses s (command_reply p s)
 reply_left (Ok (b, board)) s = λ text is. absurd cc
 reply_left (Err f) s = λ text is. same s
@@ -129,15 +126,26 @@ prompt_left (Some n) press line expression s = byte_left _ (byte_spelled n) expr
 prompt_left None (Some n) line expression s = byte_left _ (byte_spelled n) expression s
 prompt_left None None (Some line) expression s =
     reply_left (command_result (command.BoardType (line ++ codes "\n")) s.board) s
-prompt_left None None None expression s = value_left (expression_text s.board expression) s
+prompt_left None None None expression s = λ text is. same s
 
 evaluated : (expression : Text) (c : EvaluateContext) (s : SessionState)
     → Refuses s (evaluating expression c s)
 evaluated expression context.Repl s =
     prompt_left (behind (codes "switches ") expression) (behind (codes "press ") expression)
     (behind (codes "type ") expression) expression s
-evaluated expression context.Watch s = value_left (expression_text s.board expression) s
-evaluated expression context.Other s = value_left (expression_text s.board expression) s
+evaluated expression context.Watch s = λ text is. same s
+evaluated expression context.Other s = λ text is. same s
+
+-- ---- variables
+
+setting_left : (r : Result SetValue Text) (s : SessionState) → Refuses s (setting r s)
+setting_left (Ok set) s = λ text is. absurd cc
+setting_left (Err message) s = λ text is. same s
+
+handled_by : (o : Option (Result SetValue Text)) (c : VariablesCommand) (s : SessionState)
+    → Refuses s (handling_by o c s)
+handled_by (Some r) c s = either (is_stopped s.board.run) s _ _ (setting_left r s) (λ text is. same s)
+handled_by None c s = λ text is. same s
 
 -- ---- commands of editors
 
@@ -171,6 +179,7 @@ edit_left (editor.BreakpointLocations path first last) s = λ text is. absurd cc
 edit_left (editor.SetExceptionBreakpoints filters) s = λ text is. absurd cc
 edit_left editor.ExceptionInfo s = explained (exception_of s.settings.program) s
 edit_left (editor.Evaluate expression c) s = evaluated expression c s
+edit_left (editor.Variables c) s = handled_by (value_set c s.board) c s
 edit_left (editor.ReadMemory address offset count) s = λ text is. absurd cc
 edit_left (editor.Disassemble address offset instruction_offset count) s = λ text is. absurd cc
 edit_left editor.LoadedSources s = λ text is. absurd cc
@@ -187,26 +196,27 @@ loaded (Ok (b, start)) o l text s = λ message is. absurd cc
 loaded (Err f) o l text s = λ message is. same s
 
 text_left : (t : Result Text Text) (o : LoadReason) (l : LaunchOf) (s : SessionState)
-    → RefusesTurn s (by_text t s (λ text. loading o l text s))
+    → RefusesTurn s (by_text t o l s)
 text_left (Ok text) o l s = loaded (load_result l text) o l text s
 text_left (Err message) o l s = λ text is. same s
 
 launched : (p : Option Program) (l : LaunchOf) (found : Option FileText) (s : SessionState)
     → RefusesTurn s (launching_over p l found s)
-launched None l found s = text_left (text_in found) Launch l s
+launched None l found s = text_left (program_text l found) Launch l s
 launched (Some p) l found s = λ text is. same s
 
-restarted : (p : Option Program) (found : Option FileText) (s : SessionState)
-    → RefusesTurn s (restarting_of p found s)
-restarted None found s = λ text is. same s
-restarted (Some p) found s = text_left (text_in found) Restart p.launch s
+restarted : (p : Option Program) (l : Option LaunchOf) (found : Option FileText) (s : SessionState)
+    → RefusesTurn s (restarting_of p l found s)
+restarted None l found s = λ text is. same s
+restarted (Some p) l found s =
+    let launch = unwrap_or l p.launch in text_left (program_text launch found) Restart launch s
 
 -- ---- all requests
 
 asked_left : (a : RequestContent) (found : Option FileText) (s : SessionState)
     → RefusesTurn s (asking a found s)
 asked_left (asked.Editor (editor.Launch l)) found s = launched s.settings.program l found s
-asked_left (asked.Editor editor.Restart) found s = restarted s.settings.program found s
+asked_left (asked.Editor (editor.Restart l)) found s = restarted s.settings.program l found s
 asked_left (asked.Board c) found s = command_left c s
 asked_left (asked.Faulty f) found s = λ text is. same s
 asked_left (asked.Editor c) found s = edit_left c s

@@ -1,6 +1,6 @@
 -- What is told of stops and of ends where a program begins.
 use Rattle.std.proofs.Common.{◌≡◌, ◌∙◌, ℕ, List, [], ◌∷◌, ◌++◌, Bool, true, false, not, Option, Some}
-use Rattle.std.proofs.Common.{None, Result}
+use Rattle.std.proofs.Common.{None, Result, unwrap_or}
 use Rattle.std.proofs.Common.{Ok, Err, option_to_list, if◌then◌else◌, refl, sym, ap, subst, fold}
 use Rattle.std.proofs.lemmas.Bool.{and_parts}
 use Rattle.base_text.specs.Bytes.{Text}
@@ -31,7 +31,7 @@ use Rattle.dap_launch.specs.declared.program.Phase.TheVariants as phase
 use Rattle.dap_launch.specs.declared.program.Program.{Program}
 use Rattle.dap_session.specs.States.{SessionState, with_board, with_program}
 use Rattle.dap_session.specs.Turns.{Turn}
-use Rattle.dap_launch.specs.Files.{text_in}
+use Rattle.dap_launch.specs.Files.{program_text}
 use Rattle.dap_launch.specs.Lives.{in_phase, is_over, is_live}
 use Rattle.dap_launch.specs.Programs.{pauses, going_follow, begun_follow, program_of}
 use Rattle.dap_launch.specs.Points.{all_changed}
@@ -216,7 +216,7 @@ follows_loaded (Err f) o l text s reached is goes =
 
 follows_text : (t : Result Text Text) (o : LoadReason) (l : LaunchOf) (s : SessionState) → IsReached (seen s)
     → GoesOn (shown_for s.board.run) (going_follow o)
-    → FollowsTurn s (by_text t s (λ text. loading o l text s))
+    → FollowsTurn s (by_text t o l s)
 follows_text (Ok text) o l s reached goes =
     follows_loaded (load_result l text) o l text s reached (is_loaded l text) goes
 follows_text (Err message) o l s reached goes = (still s s reached refl).follows
@@ -224,12 +224,13 @@ follows_text (Err message) o l s reached goes = (still s s reached refl).follows
 pub follows_launch : (o : Option Program) (l : LaunchOf) (found : Option FileText) (s : SessionState)
     → s.settings.program ≡ o → IsReached (seen s) → FollowsTurn s (launching_over o l found s)
 follows_launch None l found s on reached =
-    follows_text (text_in found) Launch l s reached
+    follows_text (program_text l found) Launch l s reached
     (record { stops = ap shown_for (idle (seen s) reached (ap is_live on)); ends = refl })
 follows_launch (Some p) l found s on reached = (still s s reached refl).follows
 
-pub follows_restart : (o : Option Program) (found : Option FileText) (s : SessionState) → IsReached (seen s)
-    → FollowsTurn s (restarting_of o found s)
-follows_restart None found s reached = (still s s reached refl).follows
-follows_restart (Some p) found s reached =
-    follows_text (text_in found) Restart p.launch s reached (record { stops = refl; ends = refl })
+pub follows_restart : (o : Option Program) (l : Option LaunchOf) (found : Option FileText) (s : SessionState)
+    → IsReached (seen s) → FollowsTurn s (restarting_of o l found s)
+follows_restart None l found s reached = (still s s reached refl).follows
+follows_restart (Some p) l found s reached =
+    let launch = unwrap_or l p.launch in
+    follows_text (program_text launch found) Restart launch s reached (record { stops = refl; ends = refl })

@@ -73,7 +73,7 @@ use Rattle.dap_session.proofs.RunLemmas.{idle, lively}
 use Rattle.dap_session.proofs.RunLemmas.{begun_runs, with_run, none_living}
 use Rattle.dap_session.proofs.RunLemmas.{over_seen, Follows, still, runs_on, ends_live, IsCalm, calm_follows}
 use Rattle.dap_session.proofs.TurnLemmas.{GoesBy, goes_either, goes_changed, goes_board, goes_shown}
-use Rattle.dap_session.proofs.TurnLemmas.{goes_evaluating, goes_to}
+use Rattle.dap_session.proofs.TurnLemmas.{goes_evaluating, goes_handling, goes_to}
 use Rattle.dap_session.proofs.TurnLemmas.{goes_lines, goes_functions, goes_writing, goes_paused}
 use Rattle.dap_session.proofs.TurnLemmas.{goes_resumed, goes_finished, goes_resetting, goes_terminating}
 use Rattle.dap_session.proofs.StartLemmas.{goes_where, calm_none, FollowsTurn, follows_launch}
@@ -157,6 +157,7 @@ goes_editing (editor.SetExceptionBreakpoints filters) s reached =
 goes_editing (editor.WriteMemory address offset bytes) s reached = goes_writing address offset bytes s reached
 goes_editing (editor.Goto target) s reached = goes_to target s reached
 goes_editing (editor.Evaluate expression c) s reached = goes_evaluating expression c s reached
+goes_editing (editor.Variables c) s reached = goes_handling c s reached
 goes_editing editor.ExceptionInfo s reached = goes_explaining (exception_of s.settings.program) s reached
 goes_editing other s reached = still s s reached refl
 
@@ -166,8 +167,8 @@ follows_asking : (a : RequestContent) (found : Option FileText) (s : SessionStat
     → FollowsTurn s (asking a found s)
 follows_asking (asked.Editor (editor.Launch l)) found s reached =
     follows_launch s.settings.program l found s refl reached
-follows_asking (asked.Editor editor.Restart) found s reached =
-    follows_restart s.settings.program found s reached
+follows_asking (asked.Editor (editor.Restart l)) found s reached =
+    follows_restart s.settings.program l found s reached
 follows_asking (asked.Board c) found s reached = (goes_command c s reached).follows
 follows_asking (asked.Faulty f) found s reached = (still s s reached refl).follows
 follows_asking (asked.Editor c) found s reached = (goes_editing c s reached).follows
@@ -186,7 +187,7 @@ follows_turn a found s reached = follows_unless (objection a s) a found s reache
 quiet_asking : (a : RequestContent) (found : Option FileText) (s : SessionState) → IsReached (seen s)
     → is_live s.settings.program ≡ false → asks_to_load a ≡ false → (asking a found s).events ≡ []
 quiet_asking (asked.Editor (editor.Launch l)) found s reached dead is = absurd (true≢false is)
-quiet_asking (asked.Editor editor.Restart) found s reached dead is = absurd (true≢false is)
+quiet_asking (asked.Editor (editor.Restart l)) found s reached dead is = absurd (true≢false is)
 quiet_asking (asked.Board c) found s reached dead is = (goes_command c s reached).quiet dead
 quiet_asking (asked.Faulty f) found s reached dead is = refl
 quiet_asking (asked.Editor c) found s reached dead is = (goes_editing c s reached).quiet dead

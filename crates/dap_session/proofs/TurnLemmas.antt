@@ -27,8 +27,10 @@ use Rattle.dap_editor.specs.declared.request.FunctionBreakpoint.{FunctionBreakpo
 use Rattle.dap_editor.specs.declared.request.EvaluateContext.{EvaluateContext}
 use Rattle.dap_editor.specs.declared.request.EvaluateContext.TheVariants as context
 use Rattle.dap_editor.specs.declared.request.SignedOffset.{SignedOffset}
-use Rattle.dap_inspect.specs.declared.fault.EvaluateFault.{EvaluateFault}
-use Rattle.dap_inspect.specs.Expressions.{expression_text}
+use Rattle.dap_look.specs.declared.change.SetValue.{SetValue}
+use Rattle.dap_editor.specs.declared.request.VariablesCommand.{VariablesCommand}
+use Rattle.dap_history.specs.Runs.{after_input}
+use Rattle.dap_variables.specs.Answers.{value_set}
 use Rattle.dap_points.specs.Points.{has_place}
 use Rattle.dap_program.specs.declared.messages.FollowUp.TheVariants as follow
 use Rattle.dap_program.specs.Boards.{after}
@@ -49,13 +51,13 @@ use Rattle.dap_launch.specs.Programs.{program_at}
 use Rattle.dap_session.specs.Breakpoints.{setting_lines, setting_functions}
 use Rattle.dap_session.specs.Evaluations.{command_reply}
 use Rattle.dap_inputs.specs.Prompt.{behind, byte_spelled, byte_command, command_with}
-use Rattle.dap_session.specs.Evaluations.{value_told, prompting, evaluating}
+use Rattle.dap_session.specs.Evaluations.{prompting, evaluating, setting, handling_by, handling}
 use Rattle.dap_session.specs.Memory.{is_stopped, writing_from, writing}
 use Rattle.dap_session.specs.Targets.{going_to}
 use Rattle.dap_session.specs.Requests.{board_done, finish_done, resetting, terminating}
 use Rattle.dap_session.specs.Laws.{has_run, shown_for}
 use Rattle.dap_session.proofs.BoardLemmas.{KeepsRun, kept_press, kept_show, kept_where}
-use Rattle.dap_session.proofs.BoardLemmas.{kept_written, run_interrupted, still_attached}
+use Rattle.dap_session.proofs.BoardLemmas.{kept_written, kept_input, run_interrupted, still_attached}
 use Rattle.dap_session.proofs.RunLemmas.{seen, seen_board, IsReached, both, lively, over_seen, Follows, Goes}
 use Rattle.dap_session.proofs.RunLemmas.{still, PhaseFits, ProgramFits, none_living}
 use Rattle.dap_session.proofs.RunLemmas.{IsCalm, calm_still}
@@ -139,25 +141,35 @@ goes_type text expression s reached =
     goes_command_reply (λ _. body.Empty) (result_of (event.Typed (latin_bytes text)) s.board) s reached
     (record { run = refl; is_attached = refl })
 
-goes_value : (r : Result Text EvaluateFault) (s : SessionState) → IsReached (seen s)
-    → GoesBy s (value_told r s)
-goes_value (Ok text) s reached = still s s reached refl
-goes_value (Err f) s reached = still s s reached refl
-
 goes_prompt : (switches press line : Option Text) (expression : Text) (s : SessionState) → IsReached (seen s)
     → GoesBy s (prompting (command_with switches press line) expression s)
 goes_prompt (Some n) press line expression s reached = goes_switches (byte_spelled n) expression s reached
 goes_prompt None (Some n) line expression s reached = goes_press (byte_spelled n) expression s reached
 goes_prompt None None (Some line) expression s reached = goes_type (line ++ codes "\n") expression s reached
-goes_prompt None None None expression s reached = goes_value (expression_text s.board expression) s reached
+goes_prompt None None None expression s reached = still s s reached refl
 
 pub goes_evaluating : (expression : Text) (c : EvaluateContext) (s : SessionState) → IsReached (seen s)
     → GoesBy s (evaluating expression c s)
 goes_evaluating expression context.Repl s reached =
     goes_prompt (behind (codes "switches ") expression) (behind (codes "press ") expression)
     (behind (codes "type ") expression) expression s reached
-goes_evaluating expression context.Watch s reached = goes_value (expression_text s.board expression) s reached
-goes_evaluating expression context.Other s reached = goes_value (expression_text s.board expression) s reached
+goes_evaluating expression context.Watch s reached = still s s reached refl
+goes_evaluating expression context.Other s reached = still s s reached refl
+
+goes_setting : (r : Result SetValue Text) (s : SessionState) → IsReached (seen s) → GoesBy s (setting r s)
+goes_setting (Ok set) s reached =
+    let b = after_input set.input s.board in
+    changed s (with_board b s) reached (seen_board b s (kept_input set.input s.board))
+goes_setting (Err message) s reached = still s s reached refl
+
+goes_handling_by : (o : Option (Result SetValue Text)) (c : VariablesCommand) (s : SessionState)
+    → IsReached (seen s) → GoesBy s (handling_by o c s)
+goes_handling_by (Some r) c s reached =
+    goes_either (is_stopped s.board.run) s _ _ (goes_setting r s reached) (still s s reached refl)
+goes_handling_by None c s reached = still s s reached refl
+
+pub goes_handling : (c : VariablesCommand) (s : SessionState) → IsReached (seen s) → GoesBy s (handling c s)
+goes_handling c s reached = goes_handling_by (value_set c s.board) c s reached
 
 pub goes_lines : (path : Text) (lines : List LineBreakpoint) (s : SessionState) → IsReached (seen s)
     → GoesBy s (setting_lines path lines s)

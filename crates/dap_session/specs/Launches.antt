@@ -1,5 +1,6 @@
 -- How a program comes to the board (Debug Adapter Protocol, `launch` and `restart`), and begins.
-use Rattle.std.specs.Prelude.{ℕ, Option, Some, None, Result, Ok, Err, codes, option_to_list, if◌then◌else◌}
+use Rattle.std.specs.Prelude.{ℕ, Option, Some, None, unwrap_or, Result, Ok, Err, codes, option_to_list}
+use Rattle.std.specs.Prelude.{if◌then◌else◌}
 use Rattle.base_text.specs.Bytes.{Text}
 use Rattle.lab_core.specs.Board.{Board}
 use Rattle.dap_editor.specs.declared.request.Launch.{Launch as LaunchOf}
@@ -7,7 +8,7 @@ use Rattle.dap_launch.specs.declared.file.FileText.{FileText}
 use Rattle.dap_launch.specs.declared.program.Phase.{Phase}
 use Rattle.dap_launch.specs.declared.program.Phase.TheVariants as phase
 use Rattle.dap_launch.specs.declared.program.Program.{Program}
-use Rattle.dap_launch.specs.Files.{text_in}
+use Rattle.dap_launch.specs.Files.{program_text}
 use Rattle.dap_launch.specs.Lives.{in_phase}
 use Rattle.dap_launch.specs.Programs.{program_of, begun_follow}
 use Rattle.dap_launch.specs.Points.{all_changed}
@@ -78,22 +79,27 @@ abbrev pub loading : LoadReason → LaunchOf → Text → SessionState → Turn
 loading cause l text s = loading_as (load_result l text) cause l text s
 
 -- unless its file has no text
-abbrev pub by_text : Result Text Text → SessionState → (Text → Turn) → Turn
-by_text (Ok text) s f = f text
-by_text (Err message) s f = turn_of (refusing message s)
+abbrev pub by_text : Result Text Text → LoadReason → LaunchOf → SessionState → Turn
+by_text (Ok text) cause l s = loading cause l text s
+by_text (Err message) cause l s = turn_of (refusing message s)
+
+-- the program in a file is loaded
+abbrev pub loading_file : LoadReason → LaunchOf → Option FileText → SessionState → Turn
+loading_file cause l found s = by_text (program_text l found) cause l s
 
 -- ---- the requests
 
 abbrev pub launching_over : Option Program → LaunchOf → Option FileText → SessionState → Turn
-launching_over None l found s = by_text (text_in found) s (λ text. loading Launch l text s)
+launching_over None l found s = loading_file Launch l found s
 launching_over (Some p) l found s = turn_of (refusing (codes "launched already") s)
 
 abbrev pub launching : LaunchOf → Option FileText → SessionState → Turn
 launching l found s = launching_over s.settings.program l found s
 
-abbrev pub restarting_of : Option Program → Option FileText → SessionState → Turn
-restarting_of None found s = turn_of (refusing (codes "nothing is launched") s)
-restarting_of (Some p) found s = by_text (text_in found) s (λ text. loading Restart p.launch text s)
+-- by the launch of the program, or another one
+abbrev pub restarting_of : Option Program → Option LaunchOf → Option FileText → SessionState → Turn
+restarting_of None l found s = turn_of (refusing (codes "nothing is launched") s)
+restarting_of (Some p) l found s = loading_file Restart (unwrap_or l p.launch) found s
 
-abbrev pub restarting : Option FileText → SessionState → Turn
-restarting found s = restarting_of s.settings.program found s
+abbrev pub restarting : Option LaunchOf → Option FileText → SessionState → Turn
+restarting l found s = restarting_of s.settings.program l found s

@@ -23,6 +23,8 @@ use Rattle.dap_board.specs.Commands as board
 use Rattle.dap_editor.specs.declared.request.RequestContent.{RequestContent}
 use Rattle.dap_editor.specs.declared.request.RequestContent.TheVariants as asked
 use Rattle.dap_editor.specs.declared.request.EditorCommand.TheVariants as editor
+use Rattle.dap_editor.specs.declared.request.VariablesCommand.{VariablesCommand}
+use Rattle.dap_editor.specs.declared.request.VariablesCommand.TheVariants as variables
 use Rattle.dap_program.specs.declared.messages.RequestId.{RequestId}
 use Rattle.dap_program.specs.declared.end.EndPolicy.TheVariants.{Hold}
 use Rattle.dap_program.specs.Ends.{exit_code}
@@ -146,7 +148,7 @@ events_in messages = filter_map event_in messages
 -- a request that loads a program
 abbrev pub asks_to_load : RequestContent → Bool
 asks_to_load (asked.Editor (editor.Launch l)) = true
-asks_to_load (asked.Editor editor.Restart) = true
+asks_to_load (asked.Editor (editor.Restart l)) = true
 asks_to_load other = false
 
 abbrev pub loads : Input → Bool
@@ -215,11 +217,18 @@ pub record IsWatched (a : RequestContent) (s s' : SessionState) : Type 0 where
   pub program : s'.settings.program ≡ s.settings.program
   pub loads : asks_to_load a ≡ false
 
+-- a command that shows something, and sets no value
+abbrev pub IsShown : VariablesCommand → Type 0
+IsShown (variables.SetVariable reference name value) = ⊥
+IsShown (variables.SetExpression expression value) = ⊥
+IsShown other = Unit {0}
+
 -- a request that only looks
 abbrev pub IsLook : RequestContent → Type 0
 IsLook (asked.Board c) = board.IsLook c
 IsLook (asked.Editor (editor.Evaluate expression context.Watch)) = Unit {0}
 IsLook (asked.Editor (editor.Evaluate expression context.Other)) = Unit {0}
+IsLook (asked.Editor (editor.Variables c)) = IsShown c
 IsLook (asked.Editor editor.ExceptionInfo) = Unit {0}
 IsLook (asked.Editor (editor.ReadMemory address offset count)) = Unit {0}
 IsLook (asked.Editor (editor.Disassemble address offset instruction_offset count)) = Unit {0}

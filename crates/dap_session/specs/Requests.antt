@@ -33,7 +33,7 @@ use Rattle.dap_session.specs.States.{program_over}
 use Rattle.dap_session.specs.Turns.{Turn, Replied, turn_of, change_follow, refusing, succeeding, accepting}
 use Rattle.dap_session.specs.Breakpoints.{setting_lines, setting_functions, setting_data, describing_data}
 use Rattle.dap_session.specs.Breakpoints.{setting_instructions, locating}
-use Rattle.dap_session.specs.Evaluations.{evaluating}
+use Rattle.dap_session.specs.Evaluations.{evaluating, handling}
 use Rattle.dap_session.specs.Memory.{memory_at, writing, first_line, code_at}
 use Rattle.dap_session.specs.Targets.{finding_target, going_to}
 use Rattle.dap_session.specs.Launches.{beginning_where, launching, restarting}
@@ -144,7 +144,7 @@ commanding command.Continue s = resuming command.Continue s
 commanding (command.Step kind granularity) s = resuming (command.Step kind granularity) s
 commanding other s = performing other (follow_of other s) s
 
--- those that have to do with memory and code
+-- those that have to do with values, memory and code
 abbrev pub editing_memory : EditorCommand → SessionState → Replied
 editing_memory (editor.ReadMemory address offset count) s = reading address offset count s
 editing_memory (editor.WriteMemory address offset bytes) s = writing address offset bytes s
@@ -152,6 +152,7 @@ editing_memory (editor.Disassemble address offset instruction_offset count) s =
     disassembling address offset instruction_offset count s
 editing_memory (editor.GotoTargets path line) s = finding_target path line s
 editing_memory (editor.Goto target) s = going_to target s
+editing_memory (editor.Variables c) s = handling c s
 editing_memory other s = refusing (codes "unknown command") s
 
 -- those of breakpoints
@@ -195,7 +196,7 @@ objection a s =
 
 abbrev pub asking : RequestContent → Option FileText → SessionState → Turn
 asking (asked.Editor (editor.Launch l)) found s = launching l found s
-asking (asked.Editor editor.Restart) found s = restarting found s
+asking (asked.Editor (editor.Restart l)) found s = restarting l found s
 asking other found s = turn_of (replying other s)
 
 abbrev pub asking_unless : Option Text → RequestContent → Option FileText → SessionState → Turn
@@ -213,5 +214,6 @@ turn a found s = and_noted a (asking_unless (objection a s) a found s)
 
 abbrev pub wanted_file : RequestContent → SessionState → Option Text
 wanted_file (asked.Editor (editor.Launch l)) s = Some l.program
-wanted_file (asked.Editor editor.Restart) s = option_map path_of s.settings.program
+wanted_file (asked.Editor (editor.Restart None)) s = option_map path_of s.settings.program
+wanted_file (asked.Editor (editor.Restart (Some l))) s = Some l.program
 wanted_file other s = None

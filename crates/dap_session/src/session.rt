@@ -198,7 +198,9 @@ impl Session {
             RequestContent::Editor(EditorCommand::Launch(launch)) => self.launch(
                 alloc, caller, launch, file,
             ),
-            RequestContent::Editor(EditorCommand::Restart) => self.restart(alloc, caller, file),
+            RequestContent::Editor(EditorCommand::Restart(changed)) => self.restart(
+                alloc, caller, changed, file,
+            ),
             _ => self.reply_to(alloc, caller, asked),
         }
     }
@@ -236,7 +238,10 @@ impl Session {
     {
         match &request.asked {
             RequestContent::Editor(EditorCommand::Launch(launch)) => Some(launch.program.as_str()),
-            RequestContent::Editor(EditorCommand::Restart) => {
+            RequestContent::Editor(EditorCommand::Restart(Some(launch))) => {
+                Some(launch.program.as_str())
+            }
+            RequestContent::Editor(EditorCommand::Restart(None)) => {
                 let program = self.settings.program.as_ref()?;
                 Some(program.launch.program.as_str())
             }

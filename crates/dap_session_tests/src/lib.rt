@@ -5,6 +5,8 @@
 #![tactic(auto)]
 
 #[cfg(test)]
+mod paths;
+#[cfg(test)]
 mod plays;
 #[cfg(test)]
 mod points;

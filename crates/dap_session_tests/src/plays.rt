@@ -54,14 +54,14 @@ launch {"program":"count.asm","stopOnEntry":true} < calls
   "initialized"
   "stopped" {"allThreadsStopped":true,"reason":"entry","threadId":1}
 evaluate {"expression":"PC"}
-  3 "evaluate" true {"result":"00100H","variablesReference":0}
+  3 "evaluate" true {"memoryReference":"0x0100","result":"00100H","variablesReference":0}
 next {"threadId":1}
   4 "next" true {}
   "continued" {"allThreadsContinued":true,"threadId":1}
 slice
   "stopped" {"allThreadsStopped":true,"reason":"step","threadId":1}
 evaluate {"expression":"sp","context":"hover"}
-  6 "evaluate" true {"result":"00200H","variablesReference":0}
+  6 "evaluate" true {"memoryReference":"0x0200","result":"00200H","variablesReference":0}
 next {"threadId":1}
   7 "next" true {}
   "continued" {"allThreadsContinued":true,"threadId":1}
@@ -167,10 +167,10 @@ exceptionInfo {"threadId":1}
     "exceptionId":"UndefinedOpcode"}
 slice
 evaluate {"expression":"PC"}
-  10 "evaluate" true {"result":"00104H","variablesReference":0}
+  10 "evaluate" true {"memoryReference":"0x0104","result":"00104H","variablesReference":0}
 stackTrace {"threadId":1}
   11 "stackTrace" true {"stackFrames":[{"column":1,"id":1,"instructionPointerReference":"0x0104","line":4,
-    "name":"main","source":{"path":"count.asm"}}],"totalFrames":1}
+    "name":"main","source":{"name":"count.asm","path":"count.asm"}}],"totalFrames":1}
 pause
   12 "pause" false "no program runs"
 configurationDone
@@ -237,13 +237,13 @@ configurationDone
   4 "configurationDone" true {}
   "stopped" {"allThreadsStopped":true,"reason":"entry","threadId":1}
 setVariable {"variablesReference":1,"name":"PC","value":"200H"}
-  5 "setVariable" true {"value":"00200H"}
+  5 "setVariable" true {"memoryReference":"0x0200","value":"00200H"}
   "invalidated" {"areas":["stacks","variables"]}
   "memory" {"count":65536,"memoryReference":"0x0000","offset":0}
 setVariable {"variablesReference":1,"name":"PC","value":"-"}
-  6 "setVariable" false "the value is no number that fits there"
+  6 "setVariable" false "column 1: Operands"
 evaluate {"expression":"PC","context":"hover"}
-  7 "evaluate" true {"result":"00200H","variablesReference":0}
+  7 "evaluate" true {"memoryReference":"0x0200","result":"00200H","variablesReference":0}
 writeMemory {"memoryReference":"0x0300","data":"AQL/"}
   8 "writeMemory" true {"bytesWritten":3}
   "invalidated" {"areas":["stacks","variables"]}

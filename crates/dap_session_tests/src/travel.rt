@@ -103,7 +103,7 @@ goto {"threadId":1,"targetId":260}
   13 "goto" true {}
   "stopped" {"allThreadsStopped":true,"reason":"goto","threadId":1}
 evaluate {"expression":"PC"}
-  14 "evaluate" true {"result":"00104H","variablesReference":0}
+  14 "evaluate" true {"memoryReference":"0x0104","result":"00104H","variablesReference":0}
 continue
   15 "continue" true {"allThreadsContinued":true}
   "continued" {"allThreadsContinued":true,"threadId":1}

@@ -1,41 +1,27 @@
-//! Evaluations: expressions, and lines of the debugger's prompt.
-ghost use Rattle.std.specs.Prelude.{◌≡◌, ◌≢◌, IfOk};
-ghost use Rattle.dap_session.specs.Evaluations.{looking, evaluating, command_reply};
+//! Evaluations, lines of the debugger's prompt, and variables.
+ghost use Rattle.dap_session.specs.Evaluations.{evaluating, command_reply, prompting};
+ghost use Rattle.dap_session.specs.Evaluations.{setting_stopped, handling};
 ghost use Rattle.dap_inputs.specs.Prompt.{prompt_command};
-ghost use Rattle.dap_session.specs.Evaluations.{prompting};
 ghost use Rattle.dap_board.specs.Commands.{command_result, IsPerformable};
-ghost use Rattle.dap_inspect.specs.Expressions.{message_of};
 ghost use Rattle.dap_session.specs.Represents.{RepliesAs};
 
 use crate::session::Session;
 use crate::session::requests::refuse_for;
 use base_text::text::Text;
 use dap_board::perform::perform;
-use dap_editor::request::EvaluateContext;
+use dap_editor::request::{EvaluateContext, VariablesCommand};
 use dap_inputs::prompt::{PromptCommand, prompt_command};
-use dap_inspect::expression::evaluate;
-use dap_inspect::fault::EvaluateFault;
 use dap_launch::reply::{Reply, succeed};
+use dap_look::change::SetValue;
 use dap_messages::message::{EditorBody, EditorOutcome};
 use dap_program::messages::FollowUp;
+use dap_program::refusals::board_refusal;
 use dap_talk::command::DapCommand;
+use dap_variables::answer::{
+    done_value, evaluation, prompt_evaluation, value_set, variables_outcome,
+};
+use lab_core::fault::EventFault;
 use std::alloc::{AllocError, Global};
-
-// The reply to an expression that has no value. Running out of memory is an error of its own.
-fn refuse_expression(alloc: Global, fault: EvaluateFault) -> Result<Reply, AllocError>
-    ensures refused { IfOk result (λ reply. reply
-        ≡ record { outcome = EditorOutcome.Refused (message_of fault); follow = FollowUp.Nothing }) }
-    ensures other { IfOk result (λ _. fault ≢ EvaluateFault.OutOfMemory) }
-{
-    if matches!(fault, EvaluateFault::OutOfMemory) {
-        return Err(AllocError);
-    }
-    let message = fault.message(alloc)?;
-    Ok(Reply {
-        outcome: EditorOutcome::Refused(message),
-        follow: FollowUp::Nothing,
-    })
-}
 
 impl Session {
     pub(super) fn evaluate(
@@ -48,16 +34,10 @@ impl Session {
     {
         match context {
             EvaluateContext::Repl => self.evaluate_line(alloc, expression),
-            EvaluateContext::Watch | EvaluateContext::Other => self.look(alloc, expression),
-        }
-    }
-
-    fn look(&mut self, alloc: Global, expression: &str) -> Result<Reply, AllocError>
-        ensures { RepliesAs (looking expression.now) self.old result self.new }
-    {
-        match evaluate(alloc, &self.lab, expression) {
-            Ok(text) => Ok(succeed(EditorBody::Evaluation(text), FollowUp::Nothing)),
-            Err(fault) => refuse_expression(alloc, fault),
+            EvaluateContext::Watch | EvaluateContext::Other => Ok(Reply {
+                outcome: evaluation(alloc, &self.lab, expression)?,
+                follow: FollowUp::Nothing,
+            }),
         }
     }
 
@@ -75,7 +55,10 @@ impl Session {
                 alloc,
                 "a number from 0 to 255 must follow",
             ),
-            PromptCommand::Evaluate => self.look(alloc, line),
+            PromptCommand::Evaluate => Ok(Reply {
+                outcome: prompt_evaluation(alloc, &self.lab, line)?,
+                follow: FollowUp::Nothing,
+            }),
         }
     }
 
@@ -85,7 +68,7 @@ impl Session {
         ensures { RepliesAs (λ s. command_reply (command_result command.now s.board) s)
             self.old result self.new }
     {
-        let done = Text::copy_of(alloc, "ok")?;
+        let done = done_value(alloc)?;
         let follow = self.change_follow();
         match perform(alloc, &mut self.lab, command) {
             Ok(body) => {
@@ -93,6 +76,45 @@ impl Session {
                 Ok(succeed(EditorBody::Evaluation(done), follow))
             }
             Err(fault) => refuse_for(alloc, fault),
+        }
+    }
+
+    // Shows variables or completions, or sets a value.
+    pub(super) fn handle(
+        &mut self,
+        alloc: Global,
+        command: &VariablesCommand,
+    ) -> Result<Reply, AllocError>
+        ensures { RepliesAs (handling command.now) self.old result self.new }
+    {
+        match value_set(alloc, &self.lab, command)? {
+            Some(set) => self.set(alloc, set),
+            None => Ok(Reply {
+                outcome: variables_outcome(alloc, &self.lab, command)?,
+                follow: FollowUp::Nothing,
+            }),
+        }
+    }
+
+    // Sets a value if a run is stopped.
+    fn set(&mut self, alloc: Global, set: Result<SetValue, Text>) -> Result<Reply, AllocError>
+        ensures { RepliesAs (setting_stopped set) self.old result self.new }
+    {
+        if !self.is_stopped() {
+            return self.refuse_with(alloc, board_refusal(EventFault::NotStopped));
+        }
+        match set {
+            Ok(SetValue { input, shown }) => {
+                let follow = self.change_follow();
+                let done = self.redo(alloc, &input);
+                drop(input);
+                done?;
+                Ok(succeed(EditorBody::Value(shown), follow))
+            }
+            Err(message) => Ok(Reply {
+                outcome: EditorOutcome::Refused(message),
+                follow: FollowUp::Nothing,
+            }),
         }
     }
 }

@@ -5,6 +5,7 @@ ghost use Rattle.lab_core.specs.Board.{Board};
 ghost use Rattle.dap_history.specs.declared.input.Recorded.{Recorded};
 ghost use Rattle.dap_history.specs.Histories.{HistoryState, IsHistoryOf, KeepsHistory};
 ghost use Rattle.dap_history.specs.Runs.{board_at, after_input};
+ghost use Rattle.dap_inputs.specs.Inputs.{input_of};
 ghost use Rattle.dap_search.specs.Searches.{counts_hits};
 ghost use Rattle.dap_slice.specs.Stops.{back_ids};
 ghost use Rattle.dap_search.specs.Goals.{is_goal};
@@ -17,15 +18,16 @@ ghost use Rattle.dap_session.specs.Rewinds.{IsSearched, ForEachRun, ForEachSearc
 
 use crate::session::Session;
 use base_text::sequence::Sequence;
+use dap_editor::request::RequestContent;
 use dap_history::history::History;
 use dap_history::input::Input;
 use dap_history::replay::redo;
+use dap_inputs::inputs::input_of;
 use dap_launch::life::release_program;
 use dap_launch::program::{Phase, Program};
 use dap_search::goal::Goal;
 use dap_search::scan::is_at_breakpoint;
 use dap_search::search::Search;
-use i80_exec::registers::Registers;
 use lab_core::run_state::RunState;
 use std::alloc::{AllocError, Global};
 
@@ -65,11 +67,16 @@ impl Session {
         self.settings.is_initialized
     }
 
-    /// The registers of the board.
-    pub fn registers(&self) -> Registers
-        ensures { (s : SessionState) → RepresentsSession self.now s → result ≡ s.board.machine.regs }
+    /// What a request changes by hand if it is carried out.
+    pub fn input_of(
+        &self,
+        alloc: Global,
+        asked: &RequestContent,
+    ) -> Result<Option<Input>, AllocError>
+        ensures { (s : SessionState) → RepresentsSession self.now s
+            → IfOk result (λ input. input ≡ input_of asked.now s.board) }
     {
-        self.lab.regs()
+        input_of(alloc, &self.lab, asked)
     }
 
     /// The number of live frames.

@@ -4,7 +4,7 @@ ghost use Rattle.lab_core.specs.Board.{Board};
 ghost use Rattle.lab_core.specs.Labs.{RepresentsBoard};
 ghost use Rattle.dap_program.specs.Boards.{RepresentsSomeBoard};
 ghost use Rattle.dap_session.specs.Launches.{beginning_where, started_follow, installing, loading, launching};
-ghost use Rattle.dap_session.specs.Launches.{restarting};
+ghost use Rattle.dap_session.specs.Launches.{restarting, loading_file};
 ghost use Rattle.dap_session.specs.Slices.{told_by, told_in};
 ghost use Rattle.dap_session.specs.States.{SessionState, with_board, with_program, with_conditional};
 ghost use Rattle.dap_session.specs.Represents.{RepresentsSession, RepliesAs, Tells, TellsAs};
@@ -13,7 +13,7 @@ use crate::session::Session;
 use base_text::sequence::Sequence;
 use base_text::text::Text;
 use dap_editor::request::Launch;
-use dap_launch::file::{FileText, text_in};
+use dap_launch::file::{FileText, program_text};
 use dap_launch::opening::{Opening, begun_follow};
 use dap_launch::points::all_changed;
 use dap_launch::program::{
@@ -58,34 +58,45 @@ impl Session {
         if self.settings.program.is_some() {
             return self.refuse(alloc, caller, "launched already");
         }
-        match text_in(file) {
-            Err(message) => self.refuse(alloc, caller, message),
-            Ok(text) => {
-                let launch = copy_launch(launch)?;
-                let cause = LoadReason::Launch;
-                self.load(alloc, Opening { caller, cause }, launch, text)
-            }
-        }
+        let launch = copy_launch(launch)?;
+        let cause = LoadReason::Launch;
+        self.load_file(alloc, Opening { caller, cause }, launch, file)
     }
 
     pub(super) fn restart(
         &mut self,
         alloc: Global,
         caller: RequestId,
+        changed: &Option<Launch>,
         file: &Option<FileText>,
     ) -> Result<Sequence<Message>, AllocError>
-        ensures { TellsAs (λ s. told_in caller (restarting file.now s)) self.old result self.new }
+        ensures { TellsAs (λ s. told_in caller (restarting changed.now file.now s)) self.old result self.new }
     {
         let Some(program) = &self.settings.program else {
             return self.refuse(alloc, caller, "nothing is launched");
         };
-        match text_in(file) {
-            Err(message) => self.refuse(alloc, caller, message),
-            Ok(text) => {
-                let launch = copy_launch(&program.launch)?;
-                let cause = LoadReason::Restart;
-                self.load(alloc, Opening { caller, cause }, launch, text)
-            }
+        let launch = match changed {
+            Some(launch) => copy_launch(launch)?,
+            None => copy_launch(&program.launch)?,
+        };
+        let cause = LoadReason::Restart;
+        self.load_file(alloc, Opening { caller, cause }, launch, file)
+    }
+
+    // Loads the program in a launch's file in place of what is on the board.
+    fn load_file(
+        &mut self,
+        alloc: Global,
+        opening: Opening,
+        launch: Launch,
+        file: &Option<FileText>,
+    ) -> Result<Sequence<Message>, AllocError>
+        ensures { TellsAs (λ s. told_in opening.caller (loading_file opening.cause launch file.now s))
+            self.old result self.new }
+    {
+        match program_text(alloc, &launch, file)? {
+            Ok(text) => self.load(alloc, opening, launch, &text),
+            Err(message) => self.refuse(alloc, opening.caller, message.as_str()),
         }
     }
 

@@ -137,7 +137,8 @@ impl Session {
         }
         self.write_at(alloc, address_at(address, offset), bytes)
     }
-    // The commands that have to do with memory and code.
+
+    // The commands that have to do with values, memory and code.
     pub(super) fn edit_memory(
         &mut self,
         alloc: Global,
@@ -173,6 +174,7 @@ impl Session {
             }
             EditorCommand::GotoTargets { path, line } => Ok(self.find_target(path, *line)),
             EditorCommand::Goto { target } => self.go_to(alloc, *target),
+            EditorCommand::Variables(command) => self.handle(alloc, command),
             _ => self.refuse_with(alloc, "unknown command"),
         }
     }

@@ -1,8 +1,5 @@
 //! Lines to which PC can be set.
-ghost use Rattle.std.specs.Prelude.{◌≡◌};
-ghost use Rattle.dap_launch.specs.Programs.{program_at};
 ghost use Rattle.dap_session.specs.States.{SessionState};
-ghost use Rattle.dap_session.specs.Targets as targets;
 ghost use Rattle.dap_session.specs.Targets.{finding_target, going_to};
 ghost use Rattle.dap_session.specs.Represents.{RepresentsSession, Replies, RepliesAs};
 
@@ -12,7 +9,7 @@ use dap_launch::life::release_program;
 use dap_launch::program::program_at;
 use dap_launch::reply::{Reply, accept, succeed};
 use dap_lines::target::first_target;
-use dap_messages::message::{EditorBody, EditorStop, GotoTarget};
+use dap_messages::message::{EditorBody, EditorStop};
 use dap_program::change::set_pc;
 use dap_program::messages::FollowUp;
 use dap_program::refusals::board_refusal;
@@ -20,22 +17,15 @@ use lab_core::fault::EventFault;
 use std::alloc::{AllocError, Global};
 
 impl Session {
-    fn target_in(&self, path: &Text, line: u32) -> Option<GotoTarget>
-        ensures { (s : SessionState) → RepresentsSession self.now s
-            → result ≡ targets.target_in (program_at path.now s.settings.program) line s.board }
-    {
-        match program_at(path.as_str(), &self.settings.program) {
-            None => None,
-            Some(_) => first_target(&self.lab, line),
-        }
-    }
-
     // The target of a line.
     pub(super) fn find_target(&self, path: &Text, line: u32) -> Reply
         ensures { (s : SessionState) → RepresentsSession self.now s
             → Replies (finding_target path.now line s) result self.now }
     {
-        let target = self.target_in(path, line);
+        let target = match program_at(path.as_str(), &self.settings.program) {
+            None => None,
+            Some(_) => first_target(&self.lab, line),
+        };
         succeed(EditorBody::Targets(target), FollowUp::Nothing)
     }
 

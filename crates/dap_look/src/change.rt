@@ -1,0 +1,94 @@
+//! Changes of places and variables.
+ghost use Rattle.std.specs.Prelude.{◌≡◌};
+ghost use Rattle.lab_core.specs.Board.{Board};
+ghost use Rattle.lab_core.specs.Labs.{RepresentsBoard};
+ghost use Rattle.dap_look.specs.Faults.{LookGives};
+ghost use Rattle.dap_look.specs.Changes as changes;
+ghost use Rattle.dap_look.specs.Changes.{expression_set, variable_set};
+
+use crate::evaluation::{expression_read, value_read};
+use crate::fault::{LookFault, change_fault};
+use crate::shown::shown_as;
+use crate::variable::variable_target;
+use dap_history::input::Input;
+use dap_messages::message::ShownValue;
+use dap_target::change::{input_for, value_taken};
+use dap_target::target::{Target, target_of};
+use lab_core::lab::Lab;
+use std::alloc::Global;
+
+/// The change of a place, and how the place is shown after it.
+#[derive(Drop)]
+pub struct SetValue {
+    pub input: Input,
+    pub shown: ShownValue,
+}
+
+fn change_to(alloc: Global, lab: &Lab, target: Target, value: u16) -> Result<Input, LookFault>
+    ensures { (b : Board) → RepresentsBoard lab.now b
+        → LookGives result (changes.change_to b.machine.regs target value) }
+{
+    match input_for(alloc, lab, target, value) {
+        Ok(input) => Ok(input),
+        Err(fault) => Err(change_fault(fault)),
+    }
+}
+
+fn set_to(alloc: Global, lab: &Lab, target: Target, value: u16) -> Result<SetValue, LookFault>
+    ensures { (b : Board) → RepresentsBoard lab.now b
+        → LookGives result (changes.set_to b.machine.regs target value) }
+{
+    let input = change_to(alloc, lab, target, value)?;
+    let shown = shown_as(alloc, lab.regs(), target, value_taken(target, value))?;
+    Ok(SetValue { input, shown })
+}
+
+fn set_by(alloc: Global, lab: &Lab, target: Target, value: &str) -> Result<SetValue, LookFault>
+    ensures { (b : Board) → RepresentsBoard lab.now b → LookGives result (changes.set_by b target value.now) }
+{
+    let value = value_read(alloc, lab, value)?;
+    set_to(alloc, lab, target, value)
+}
+
+fn target_read(alloc: Global, lab: &Lab, text: &str) -> Result<Target, LookFault>
+    ensures { (b : Board) → RepresentsBoard lab.now b → LookGives result (changes.target_read b text.now) }
+{
+    let expression = expression_read(alloc, text)?;
+    match target_of(alloc, lab, &expression)? {
+        Some(target) => Ok(target),
+        None => Err(LookFault::NoPlace),
+    }
+}
+
+/// The change by which the place that an expression names gets the value of another one. A flag takes 0 and
+/// 1, and a byte what the assembler takes for one.
+pub fn set_expression(
+    alloc: Global,
+    lab: &Lab,
+    expression: &str,
+    value: &str,
+) -> Result<SetValue, LookFault>
+    ensures { (b : Board) → RepresentsBoard lab.now b
+        → LookGives result (expression_set b expression.now value.now) }
+{
+    let target = target_read(alloc, lab, expression)?;
+    set_by(alloc, lab, target, value)
+}
+
+/// The same for a variable of a scope, which is given by its reference: a register or a pair (1), a flag (2),
+/// a byte of memory (5) or a word on the stack (6), of which the last two have their addresses as names.
+pub fn set_variable(
+    alloc: Global,
+    lab: &Lab,
+    reference: u32,
+    name: &str,
+    value: &str,
+) -> Result<SetValue, LookFault>
+    ensures { (b : Board) → RepresentsBoard lab.now b
+        → LookGives result (variable_set b reference name.now value.now) }
+{
+    match variable_target(reference, name) {
+        Some(target) => set_by(alloc, lab, target, value),
+        None => Err(LookFault::NoVariable),
+    }
+}

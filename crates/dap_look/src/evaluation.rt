@@ -1,0 +1,104 @@
+//! Values of expressions.
+ghost use Rattle.std.specs.Prelude.{◌≡◌};
+ghost use Rattle.std.specs.List.{list_any};
+ghost use Rattle.lab_core.specs.Board.{Board};
+ghost use Rattle.lab_core.specs.Labs.{RepresentsBoard};
+ghost use Rattle.dap_expr.specs.Values.{value_on};
+ghost use Rattle.dap_look.specs.Faults.{LookGives};
+ghost use Rattle.dap_look.specs.Evaluation as evaluation;
+ghost use Rattle.dap_look.specs.Evaluation.{evaluation_of};
+
+use crate::fault::LookFault;
+use crate::shown::{shown_at, value_shown};
+use asm_expr::evaluation::ExprFault;
+use asm_syntax::fault::LineFault;
+use dap_expr::expression::Expression;
+use dap_messages::message::ShownValue;
+use dap_target::target::target_of;
+use lab_core::lab::Lab;
+use std::alloc::Global;
+
+fn is_line_end(byte: u8) -> bool
+    ensures { result ≡ evaluation.is_line_end byte }
+{
+    byte == b'\n' || byte == b'\r'
+}
+
+fn has_line_end(text: &str) -> bool
+    ensures { result ≡ list_any evaluation.is_line_end text.now }
+{
+    text.as_bytes().iter().any(|byte| is_line_end(*byte))
+}
+
+fn is_one_line(text: &str) -> bool
+    ensures { result ≡ evaluation.is_one_line text.now }
+{
+    !text.is_empty() && !has_line_end(text)
+}
+
+fn read_trimmed(alloc: Global, text: &str) -> Result<Expression, LookFault>
+    ensures { LookGives result (evaluation.read_trimmed text.now) }
+{
+    if !is_one_line(text) {
+        return Err(LookFault::NoExpression);
+    }
+    match Expression::parse(alloc, text) {
+        Ok(expression) => Ok(expression),
+        Err(LineFault::OutOfMemory) => Err(LookFault::OutOfMemory),
+        Err(LineFault::At { column, kind }) => Err(LookFault::Syntax { column, kind }),
+    }
+}
+
+/// The expression that a text is, without the white space at its ends.
+#[tactic(auto, unfolding(crate::specs::Evaluation::expression_read))]
+pub(crate) fn expression_read(alloc: Global, text: &str) -> Result<Expression, LookFault>
+    ensures { LookGives result (evaluation.expression_read text.now) }
+{
+    read_trimmed(alloc, text.trim())
+}
+
+fn or_fault(value: Result<u16, ExprFault>) -> Result<u16, LookFault>
+    ensures { result ≡ evaluation.or_fault value }
+{
+    match value {
+        Ok(value) => Ok(value),
+        Err(fault) => Err(LookFault::Value(fault)),
+    }
+}
+
+/// The value of the expression that a text is.
+pub(crate) fn value_read(alloc: Global, lab: &Lab, text: &str) -> Result<u16, LookFault>
+    ensures { (b : Board) → RepresentsBoard lab.now b → LookGives result (evaluation.value_read b text.now) }
+{
+    let expression = expression_read(alloc, text)?;
+    or_fault(expression.value(lab))
+}
+
+fn expression_shown(
+    alloc: Global,
+    lab: &Lab,
+    expression: &Expression,
+) -> Result<ShownValue, LookFault>
+    ensures { (b : Board) → RepresentsBoard lab.now b
+        → LookGives result (evaluation.expression_shown b expression.now) }
+{
+    match target_of(alloc, lab, expression)? {
+        Some(target) => Ok(shown_at(alloc, lab, target)?),
+        None => {
+            let value = or_fault(expression.value(lab))?;
+            Ok(value_shown(alloc, value)?)
+        }
+    }
+}
+
+/// The value of an expression as an editor shows it: `0hhH` for a byte of the machine, 0 or 1 for a flag, and
+/// `0hhhhH` for any other value. A memory window on it begins where the byte or the word is, else at the
+/// value, which may be an address; for a register of one byte, PSW and a flag there is none.
+///
+/// White space at the ends is ignored. An empty text and a text with LF or CR fail with `NoExpression`.
+pub fn evaluate(alloc: Global, lab: &Lab, text: &str) -> Result<ShownValue, LookFault>
+    ensures { (b : Board) → RepresentsBoard lab.now b → LookGives result (evaluation_of b text.now) }
+{
+    let expression = expression_read(alloc, text)?;
+    expression_shown(alloc, lab, &expression)
+}

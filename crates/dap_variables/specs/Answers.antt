@@ -1,0 +1,121 @@
+-- What an editor is answered of expressions and variables (Debug Adapter Protocol, `evaluate`, `scopes`,
+-- `variables` and `completions`), and the values that it sets (`setVariable` and `setExpression`).
+use Rattle.std.specs.Prelude.{ℕ, ◌+◌, ◌==◌, List, [], ◌∷◌, length, take, drop, Bool, true, false, ◌&&◌}
+use Rattle.std.specs.Prelude.{nat_le, Option, Some, None, Result, Ok, Err, codes, if◌then◌else◌}
+use Rattle.std.specs.Str.{trim, bytes_eq}
+use Rattle.base_text.specs.Bytes.{Text}
+use Rattle.asm_syntax.specs.Ascii.{space}
+use Rattle.lab_frames.specs.Live.{live}
+use Rattle.lab_core.specs.declared.fault.EventFault.{EventFault}
+use Rattle.lab_core.specs.declared.fault.EventFault.TheVariants.{NotStopped, BadFrame}
+use Rattle.lab_core.specs.declared.run_state.RunState.{RunState}
+use Rattle.lab_core.specs.declared.run_state.RunState.TheVariants.{NoRun, Running, Stopped}
+use Rattle.lab_core.specs.Board.{Board}
+use Rattle.dap_messages.specs.declared.message.EditorBody.{EditorBody}
+use Rattle.dap_messages.specs.declared.message.EditorBody.TheVariants as body
+use Rattle.dap_messages.specs.declared.message.EditorOutcome.{EditorOutcome}
+use Rattle.dap_messages.specs.declared.message.EditorOutcome.TheVariants.{Success, Refused}
+use Rattle.dap_messages.specs.declared.message.EditorVariable.{EditorVariable}
+use Rattle.dap_messages.specs.declared.message.ShownValue.{ShownValue}
+use Rattle.dap_editor.specs.declared.request.VariablesCommand.{VariablesCommand}
+use Rattle.dap_editor.specs.declared.request.VariablesCommand.TheVariants as command
+use Rattle.dap_look.specs.declared.fault.LookFault.{LookFault}
+use Rattle.dap_look.specs.declared.change.SetValue.{SetValue}
+use Rattle.dap_look.specs.Faults.{message_of}
+use Rattle.dap_look.specs.Evaluation.{evaluation_of}
+use Rattle.dap_look.specs.Changes.{expression_set, variable_set}
+use Rattle.dap_show.specs.declared.completion.Completions.{Completions}
+use Rattle.dap_show.specs.declared.scopes.ScopeSizes.{ScopeSizes}
+use Rattle.dap_show.specs.Completions.{completions_on}
+use Rattle.dap_show.specs.Scopes.{variables_on, sizes_on}
+use Rattle.dap_show.specs.Symbols.{symbols_with}
+use Rattle.dap_program.specs.Refusals.{board_refusal}
+
+-- ---- expressions
+
+-- a line of the prompt is done, which has no value
+abbrev pub done_value : ShownValue
+done_value = record { text = codes "ok"; memory = None }
+
+abbrev pub or_message : {A : Type 0} → Result A LookFault → Result A Text
+or_message (Ok value) = Ok value
+or_message (Err fault) = Err (message_of fault)
+
+abbrev pub value_outcome : Result ShownValue LookFault → EditorOutcome
+value_outcome (Ok value) = Success (body.Evaluation value)
+value_outcome (Err fault) = Refused (message_of fault)
+
+-- the value of an expression
+abbrev pub evaluation : Board → Text → EditorOutcome
+evaluation b expression = value_outcome (evaluation_of b expression)
+
+-- ---- the prompt
+
+abbrev pub symbols_word : Text
+symbols_word = codes "symbols"
+
+-- a line of the prompt may ask for the symbols in whose names a part stands, or for all
+abbrev pub part_behind : Text → Option Text
+part_behind [] = Some []
+part_behind (c ∷ part) = if c == space then Some (trim part) else None
+
+abbrev pub part_asked : Text → Option Text
+part_asked line =
+    if bytes_eq (take (length symbols_word) line) symbols_word
+    then part_behind (drop (length symbols_word) line)
+    else None
+
+abbrev pub symbols_value : Board → Text → ShownValue
+symbols_value b part = record { text = symbols_with b part; memory = None }
+
+abbrev pub prompt_outcome : Option Text → Text → Board → EditorOutcome
+prompt_outcome (Some part) line b = Success (body.Evaluation (symbols_value b part))
+prompt_outcome None line b = evaluation b line
+
+-- what a line of the prompt shows that is no command of the board
+abbrev pub prompt_evaluation : Board → Text → EditorOutcome
+prompt_evaluation b line = prompt_outcome (part_asked line) line b
+
+-- ---- variables
+
+abbrev pub sizes_body : ScopeSizes → EditorBody
+sizes_body sizes = body.Scopes sizes.symbols sizes.words
+
+-- a frame of a stopped run has scopes
+abbrev pub scopes_if : Bool → Board → EditorOutcome
+scopes_if true b = Success (sizes_body (sizes_on b))
+scopes_if false b = Refused (board_refusal BadFrame)
+
+-- the frames of a run are its live ones, and the main program
+abbrev pub has_frame : ℕ → Board → Bool
+has_frame frame b = nat_le 1 frame && nat_le frame (length (live b.trace) + 1)
+
+abbrev pub scopes_outcome : RunState → ℕ → Board → EditorOutcome
+scopes_outcome NoRun frame b = Refused (board_refusal NotStopped)
+scopes_outcome Running frame b = Refused (board_refusal NotStopped)
+scopes_outcome Stopped frame b = scopes_if (has_frame frame b) b
+
+abbrev pub rows_outcome : Result (List EditorVariable) EventFault → EditorOutcome
+rows_outcome (Ok rows) = Success (body.Variables rows)
+rows_outcome (Err fault) = Refused (board_refusal fault)
+
+abbrev pub completions_body : Completions → EditorBody
+completions_body c = body.Completions c.items c.start c.length
+
+-- what is shown
+abbrev pub variables_outcome : VariablesCommand → Board → EditorOutcome
+variables_outcome (command.Scopes frame) b = scopes_outcome b.run frame b
+variables_outcome (command.Variables reference start count) b =
+    rows_outcome (variables_on b reference start count)
+variables_outcome (command.Completions text column) b =
+    Success (completions_body (completions_on b text column))
+variables_outcome other b = Refused (codes "unknown command")
+
+-- ---- changes
+
+-- the value that is set, or why it can't be; nothing if no value is to be set
+abbrev pub value_set : VariablesCommand → Board → Option (Result SetValue Text)
+value_set (command.SetVariable reference name value) b =
+    Some (or_message (variable_set b reference name value))
+value_set (command.SetExpression expression value) b = Some (or_message (expression_set b expression value))
+value_set other b = None
