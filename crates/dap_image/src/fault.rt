@@ -7,7 +7,7 @@ use base_text::text::Text;
 use std::alloc::{AllocError, Global};
 
 /// Why a program has no text.
-#[derive(Clone, Copy, Debug, PartialEq, Eq)]
+#[derive(Clone, Copy)]
 pub enum ImageFault {
     OutOfMemory,
     /// The first fault of Intel HEX, at a line, from 1.

@@ -14,7 +14,7 @@ use i80_rows::memory::MEMORY_SIZE;
 use std::alloc::Global;
 
 /// Where a program's bytes are and where it starts, as far as its file doesn't say it.
-#[derive(Clone, Copy, Debug, PartialEq, Eq)]
+#[derive(Clone, Copy)]
 pub struct ImagePlace {
     /// The address of the first byte, for `ImageKind::Bytes` alone.
     pub origin: u16,

@@ -11,7 +11,7 @@ use std::fmt;
 use thiserror::Error;
 
 /// Why an expression has no value, or a place can't get one.
-#[derive(Clone, Copy, PartialEq, Eq, Error)]
+#[derive(Clone, Copy, Error)]
 pub enum LookFault {
     OutOfMemory,
     /// A text that is empty or has more than one line.

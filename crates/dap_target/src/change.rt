@@ -16,18 +16,14 @@ use i80_exec::registers::Registers;
 use i80_rows::flags::Flags;
 use lab_core::lab::Lab;
 use std::alloc::{AllocError, Global};
-use thiserror::Error;
 
 /// Why a place can't get a value.
-#[derive(Clone, Copy, Debug, PartialEq, Eq, Error)]
+#[derive(Clone, Copy)]
 pub enum ChangeFault {
-    #[error("OutOfMemory")]
     OutOfMemory,
     /// The value is larger than the place takes.
-    #[error("TooLarge {most}")]
     TooLarge { most: u16 },
     /// The second byte of a word at FFFF would be at 0000.
-    #[error("NoRoom")]
     NoRoom,
 }
 
