@@ -105,7 +105,8 @@ fn spaced_from(alloc: Global, first: u8, others: &[u8]) -> Result<String, AllocE
     Ok(text)
 }
 
-fn spaced_bytes(alloc: Global, bytes: &[u8]) -> Result<Value, AllocError>
+/// The JSON of bytes: two digits for each, with a blank between them.
+pub fn spaced_bytes(alloc: Global, bytes: &[u8]) -> Result<Value, AllocError>
     ensures { IfOk result (λ v. view v ≡ string (spaced_bytes bytes.now)) }
 {
     let text = match bytes.split_first() {

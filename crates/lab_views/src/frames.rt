@@ -1,17 +1,15 @@
 //! The frames of a stopped run.
-ghost use Rattle.std.specs.Prelude.{◌≡◌, ◌<◌, ◌≤◌, ◌+◌, ◌∷◌, ◌++◌, ◌&&◌, ◌==◌, List, length, map, reverse};
+ghost use Rattle.std.specs.Prelude.{◌≡◌, ◌≤◌, ◌+◌, ◌∷◌, List, length, map, reverse};
 ghost use Rattle.std.specs.Prelude.{option_map, unwrap_or, slice_get, IfOk, Some, codes};
-ghost use Rattle.base_text.specs.Hexadecimal.{upper_word};
 ghost use Rattle.i80_devs.specs.Past.{Operation};
 ghost use Rattle.lab_image.specs.Loads.{Load, GivesOrigins};
 ghost use Rattle.lab_views.specs.Paging.{asked_for, page};
 ghost use Rattle.lab_views.specs.Parts.{parts_with};
 ghost use Rattle.lab_views.specs.Frames as frames;
 
+use crate::names::routine_name;
 use crate::paging::{asked_for, end_of};
 use crate::parts::Parts;
-use asm_build::symbols::{Symbol, SymbolKind, Symbols};
-use base_text::hexadecimal::push_word;
 use base_text::sequence::Sequence;
 use base_text::text::Text;
 use lab_image::sources::Sources;
@@ -20,64 +18,6 @@ use std::alloc::{AllocError, Global};
 
 /// The most frames that are shown at once.
 const MOST_FRAMES: u32 = 64;
-
-fn is_label(kind: SymbolKind) -> bool
-    ensures { result ≡ frames.is_label kind }
-{
-    match kind {
-        SymbolKind::Label => true,
-        SymbolKind::Equ => false,
-        SymbolKind::Set => false,
-    }
-}
-
-fn labels(address: u16, symbol: Symbol) -> bool
-    ensures { result ≡ (frames.is_label symbol.kind && symbol.value == address) }
-{
-    is_label(symbol.kind) && symbol.value == address
-}
-
-/// The name and the symbol at an index.
-pub(crate) fn symbol_at(symbols: &Symbols, index: usize) -> (&str, Symbol)
-    requires { index < length symbols.now }
-    ensures { slice_get symbols.now index ≡ Some (result.0.now, result.1) }
-{
-    match symbols.at(index) {
-        Some(entry) => entry,
-        None => unreachable!(),
-    }
-}
-
-/// The first label with an address.
-fn label_of(symbols: &Symbols, address: u16) -> Option<&str>
-    ensures { option_map (λ name. name.now) result ≡ frames.label_of symbols.now address }
-{
-    for index in 0..symbols.len() {
-        let (name, symbol) = symbol_at(symbols, index);
-        if labels(address, symbol) {
-            return Some(name);
-        }
-    }
-    None
-}
-
-fn address_name(alloc: Global, address: u16) -> Result<Text, AllocError>
-    ensures { IfOk result (λ name. name ≡ upper_word address ++ codes "H") }
-{
-    let mut name = String::new(alloc);
-    push_word(&mut name, address)?;
-    name.push_str("H")?;
-    Ok(Text::from(name))
-}
-
-fn routine_name(alloc: Global, symbols: &Symbols, address: u16) -> Result<Text, AllocError>
-    ensures { IfOk result (λ name. name ≡ frames.routine_name symbols.now address) }
-{
-    match label_of(symbols, address) {
-        Some(name) => Text::copy_of(alloc, name),
-        None => address_name(alloc, address),
-    }
-}
 
 /// The path of a source, by its number.
 pub(crate) fn path_of(

@@ -1,21 +1,20 @@
 //! The variables of the five scopes.
 ghost use Rattle.std.specs.Prelude.{◌≡◌, ◌∷◌, ◌++◌, [], List, IfOk, OnOk};
-ghost use Rattle.std.specs.Fmt.{decimal};
 ghost use Rattle.asm_syntax.specs.Numerals.{byte_text, word_text};
 ghost use Rattle.i80_devs.specs.Past.{Operation, RepresentsPast, panel_after};
 ghost use Rattle.lab_views.specs.Paging.{asked_for, page};
 ghost use Rattle.lab_views.specs.Variables as variables;
 
-use crate::frames::symbol_at;
+use crate::names::symbol_at;
 use crate::paging::{asked_for, end_of};
+use crate::texts::{bit_text, byte_text, decimal, interrupts_text, latched_text, word_text};
 use asm_build::symbols::Symbols;
-use asm_syntax::numeral;
 use base_text::hexadecimal;
 use base_text::sequence::Sequence;
 use base_text::text::Text;
 use i80_devs::devices::Devices;
 use i80_exec::machine::Machine;
-use i80_exec::registers::{Interrupts, Registers};
+use i80_exec::registers::Registers;
 use i80_rows::memory::MEMORY_SIZE;
 use lab_shown::shown::Variable;
 use std::alloc::{AllocError, Global};
@@ -28,57 +27,6 @@ const ADDRESSES: u32 = MEMORY_SIZE as u32;
 
 /// The usual count of bytes of memory.
 const USUAL_BYTES: u32 = 16;
-
-// ---- values
-
-fn byte_text(alloc: Global, byte: u8) -> Result<Text, AllocError>
-    ensures { IfOk result (λ text. text ≡ byte_text byte) }
-{
-    let mut text = String::new(alloc);
-    numeral::push_byte(&mut text, byte)?;
-    Ok(Text::from(text))
-}
-
-fn word_text(alloc: Global, word: u16) -> Result<Text, AllocError>
-    ensures { IfOk result (λ text. text ≡ word_text word) }
-{
-    let mut text = String::new(alloc);
-    numeral::push_word(&mut text, word)?;
-    Ok(Text::from(text))
-}
-
-fn decimal(alloc: Global, number: usize) -> Result<Text, AllocError>
-    ensures { IfOk result (λ text. text ≡ decimal number) }
-{
-    let mut text = String::new(alloc);
-    write!(text, "{number}")?;
-    Ok(Text::from(text))
-}
-
-fn bit_text(bit: bool) -> &'static str
-    ensures { result.now ≡ variables.bit_text bit }
-{
-    if bit { "1" } else { "0" }
-}
-
-fn interrupts_text(interrupts: Interrupts) -> &'static str
-    ensures { result.now ≡ variables.interrupts_text interrupts }
-{
-    match interrupts {
-        Interrupts::Off => "off",
-        Interrupts::Arming => "arming",
-        Interrupts::On => "on",
-    }
-}
-
-fn latched_text(alloc: Global, latched: Option<u8>) -> Result<Text, AllocError>
-    ensures { IfOk result (λ text. text ≡ variables.latched_text latched) }
-{
-    match latched {
-        None => Text::copy_of(alloc, "none"),
-        Some(n) => decimal(alloc, usize::from(n)),
-    }
-}
 
 // ---- one more variable
 

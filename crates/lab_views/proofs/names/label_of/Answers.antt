@@ -4,8 +4,8 @@ use Rattle.std.specs.Prelude.{option_map}
 use Rattle.std.specs.List.{find}
 use Rattle.lab_views.specs.Frames.{labels}
 use Rattle.lab_views.proofs.ListLemmas.{find-next}
-use Rattle.lab_views.proofs.frames.label_of.Goals as goal
-use Rattle.lab_views.proofs.frames.label_of.Goals.{After-labels}
+use Rattle.lab_views.proofs.names.label_of.Goals as goal
+use Rattle.lab_views.proofs.names.label_of.Goals.{After-labels}
 
 -- the symbol that is looked at
 abbrev entry : After-labels → List ℕ × Symbol
