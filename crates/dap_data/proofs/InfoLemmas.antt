@@ -20,7 +20,7 @@ use Rattle.dap_data.specs.declared.place.DataPlace.{DataPlace}
 use Rattle.dap_data.specs.declared.place.DataPlace.TheVariants.{Bytes}
 use Rattle.dap_data.specs.Places.{registers, pairs, id_of, register_named, data_named}
 use Rattle.dap_data.specs.Info.{or_past_end, bytes_at, register_at, in_scope, address_of, by_expression}
-use Rattle.dap_data.specs.Info.{place_at, info_of, data_info}
+use Rattle.dap_data.specs.Info.{word_at, place_at, info_of, data_info}
 use Rattle.dap_data.specs.Laws.{SetsDescribed}
 use Rattle.dap_data.proofs.PlaceLemmas.{bytes_back}
 
@@ -116,13 +116,15 @@ scope_or (Some scope.Flags) q otherwise other = no_data fault.Elsewhere
 scope_or (Some scope.Devices) q otherwise other = no_data fault.Elsewhere
 scope_or None q otherwise other = no_data fault.Elsewhere
 
-name_or : (is_address is_zero : Bool) (q : DataQuery) (otherwise : Result DataPlace QueryFault)
+name_or : (is_address is_zero is_stack : Bool) (q : DataQuery) (otherwise : Result DataPlace QueryFault)
     → IsSetIf otherwise
-    → IsSetIf (unwrap_or (if is_address then None
-    else (if is_zero then register_at q.name else in_scope (scope_with q.scope) q)) otherwise)
-name_or true is_zero q otherwise other = other
-name_or false true q otherwise other = register_or q.name otherwise other
-name_or false false q otherwise other = scope_or (scope_with q.scope) q otherwise other
+    → IsSetIf (unwrap_or (if is_address then None else
+    if is_zero then register_at q.name else
+    if is_stack then word_at 2 q.name else in_scope (scope_with q.scope) q) otherwise)
+name_or true is_zero is_stack q otherwise other = other
+name_or false true is_stack q otherwise other = register_or q.name otherwise other
+name_or false false true q otherwise other = word_or 2 (word_spelled q.name) otherwise other
+name_or false false false q otherwise other = scope_or (scope_with q.scope) q otherwise other
 
 expression_is_set : (count : ℕ) (address : Result ℕ QueryFault) → IsSetIf (address >>= bytes_at count)
 expression_is_set count (Ok address) = bytes_are_set count address
@@ -130,7 +132,7 @@ expression_is_set count (Err why) = no_data why
 
 place_is_set : (b : Board) (q : DataQuery) → IsSetIf (place_at b q)
 place_is_set b q =
-    name_or q.is_address (q.scope == 0) q (by_expression b q)
+    name_or q.is_address (q.scope == 0) (q.scope == 6) q (by_expression b q)
     (expression_is_set q.count (address_of b (expression_of q.name)))
 
 -- ---- the law

@@ -63,11 +63,13 @@ in_scope (Some scope.Memory) q = word_at q.count q.name
 in_scope (Some scope.Symbols) q = None
 in_scope _ q = Some (Err fault.Elsewhere)
 
--- The scope 0 has no variables: a name there is a register, or an expression.
+-- The scope 0 has no variables: a name there is a register, or an expression. Those of 6 are the words of the
+-- stack.
 abbrev pub by_name : DataQuery → Option (Result DataPlace QueryFault)
 by_name q =
-    if q.is_address then None
-    else (if q.scope == 0 then register_at q.name else in_scope (scope_with q.scope) q)
+    if q.is_address then None else
+    if q.scope == 0 then register_at q.name else
+    if q.scope == 6 then word_at 2 q.name else in_scope (scope_with q.scope) q
 
 -- ---- by an expression
 

@@ -22,6 +22,9 @@ use std::alloc::{AllocError, Global};
 /// The greatest number of bytes that are watched together.
 const MOST_BYTES: u32 = 16;
 
+/// The reference of the scope that shows the stack.
+const STACK: u32 = 6;
+
 /// Why there is nothing to watch.
 #[derive(Clone, Copy)]
 enum QueryFault {
@@ -103,6 +106,8 @@ fn by_name(query: &DataQuery) -> Option<Result<DataPlace, QueryFault>>
         None
     } else if query.scope == 0 {
         register_at(query.name.as_str())
+    } else if query.scope == STACK {
+        word_at(2, query.name.as_str())
     } else {
         in_scope(Scope::with_reference(query.scope), query)
     }

@@ -21,12 +21,15 @@ use Rattle.dap_debugger.specs.declared.incoming.StreamEnd.{StreamEnd}
 use Rattle.dap_debugger.specs.declared.conversation.ConversationEnd.{ConversationEnd}
 use Rattle.dap_debugger.specs.declared.conversation.ConversationEnd.TheVariants as end
 use Rattle.dap_messages.specs.declared.message.Message.{Message}
-use Rattle.dap_debugger.specs.Sending.{sent_bytes}
+use Rattle.dap_messages.specs.Numbering.{numbering_of}
+use Rattle.dap_debugger.specs.declared.sending.Progress.{Progress}
+use Rattle.dap_debugger.specs.Sending.{at_start, sent_bytes}
+use Rattle.dap_debugger.proofs.SendingLemmas.{numbering_on}
 use Rattle.dap_debugger.specs.Given.{Gave}
 use Rattle.dap_debugger.specs.KnownFiles.{KnownFiles}
 use Rattle.dap_debugger.specs.Debuggers.{DebuggerState, Past, PastSlice}
 use Rattle.dap_debugger.specs.Conversations.{Exchange, answered, idle, incoming_of, inputs_in, inputs_of}
-use Rattle.dap_debugger.specs.Conversations.{asked_in, session_after}
+use Rattle.dap_debugger.specs.Conversations.{asked_in, session_after, numbering_by}
 use Rattle.dap_debugger.specs.Conversations.{bytes_for, FindsIn, FindsFiles, Ports, ports, Converses}
 use Rattle.dap_debugger.specs.Conversations.{HasConversed, HasAnswered, Answers, Writes, WritesPrefix}
 use Rattle.dap_debugger.specs.Conversations.{FailsToWrite}
@@ -98,34 +101,42 @@ past_quiet d inputs bytes p e =
         messages = played_messages inputs (slice false) recorded_before_requests
             ∙ (ap (λ (t : RecordedTold). before.messages ++ t.messages) quiet
             ∙ (append-nil before.messages ∙ p.messages));
-        count = p.count;
+        progress = p.progress;
         wrote = p.wrote;
       },
     )
 
 -- if nothing waits to be sent, all was
 past_whole : (d : DebuggerState) (inputs : List Input) (bytes : Bytes) → Past d inputs bytes → d.told ≡ []
-    → bytes ≡ sent_bytes 0 (play_all inputs recorded_before_requests).messages
+    → bytes ≡ sent_bytes at_start (play_all inputs recorded_before_requests).messages
 past_whole d inputs bytes p sent =
-    p.wrote ∙ ap (sent_bytes 0)
+    p.wrote ∙ ap (sent_bytes at_start)
     (sym (p.messages ∙ (ap (λ m. p.before ++ m) sent ∙ append-nil p.before)))
+
+-- and then the editor counts by all of it
+past_counts : (d : DebuggerState) (inputs : List Input) (bytes : Bytes) → Past d inputs bytes → d.told ≡ []
+    → d.progress.numbering ≡ numbering_by inputs
+past_counts d inputs bytes p sent =
+    ap (λ (q : Progress). q.numbering) p.progress
+    ∙ (numbering_on at_start p.before
+    ∙ ap numbering_of (sym (p.messages ∙ (ap (λ m. p.before ++ m) sent ∙ append-nil p.before))))
 
 -- ---- an exchange more
 
 finds_last : (known : KnownFiles) (exchanges before less after : List Exchange)
-    (x y : Exchange) → FindsFiles known exchanges → FindsIn known x (session_after exchanges)
-    → exchanges ≡ before ++ less → y ∷ after ≡ less ++ x ∷ [] → FindsIn known y (session_after before)
+    (x y : Exchange) → FindsFiles known exchanges → FindsIn known x exchanges
+    → exchanges ≡ before ++ less → y ∷ after ≡ less ++ x ∷ [] → FindsIn known y before
 finds_last known exchanges before [] after x y all here front last =
     let same : y ≡ x = cc in
     let whole : exchanges ≡ before = front ∙ append-nil before in
-    subst (λ (z : Exchange). FindsIn known z (session_after before)) (sym same)
-    (subst (λ (l : List Exchange). FindsIn known x (session_after l)) whole here)
+    subst (λ (z : Exchange). FindsIn known z before) (sym same)
+    (subst (λ (l : List Exchange). FindsIn known x l) whole here)
 finds_last known exchanges before (z ∷ less) after x y all here front last =
     let same : y ≡ z = cc in
-    subst (λ (w : Exchange). FindsIn known w (session_after before)) (sym same) (all before less z front)
+    subst (λ (w : Exchange). FindsIn known w before) (sym same) (all before less z front)
 
 finds_more : (known : KnownFiles) (exchanges : List Exchange) (x : Exchange)
-    → FindsFiles known exchanges → FindsIn known x (session_after exchanges)
+    → FindsFiles known exchanges → FindsIn known x exchanges
     → FindsFiles known (exchanges ++ x ∷ [])
 finds_more known exchanges x all here before after y e =
     elim (split_last exchanges before (y ∷ after) x e) [
@@ -135,7 +146,7 @@ finds_more known exchanges x all here before after y e =
 
 answered_more : (known : KnownFiles) (start now : Ports) (d e : DebuggerState)
     (given : Option (List Incoming)) (h : HasConversed known start now d) (x : Exchange)
-    → Gave now.given given (incoming_of x ∷ []) → FindsIn known x (session_after h.exchanges)
+    → Gave now.given given (incoming_of x ∷ []) → FindsIn known x h.exchanges
     → Past e (inputs_of h.exchanges ++ inputs_in x) (bytes_for h.exchanges)
     → HasAnswered known start (ports given now.outlet) e
 answered_more known start now d e given h x gave found past = record {
@@ -161,11 +172,13 @@ answered_body known start now d m e given came body shown h gave came_is shown_i
     let each = a.each before (bytes_for h.exchanges) h.past in
     let canonical = each.0 in
     let found = each.1 in
-    let asked = request (asked_in shown canonical) found ∷ [] in
+    let numbering = d.progress.numbering in
+    let asked = request (asked_in numbering shown canonical) found ∷ [] in
     let gave' : Gave now.given given (incoming.Body shown ∷ []) =
     subst (λ i. Gave now.given given (i ∷ [])) (came_is ∙ ap (λ b. incoming.Body b) (sym shown_is)) gave in
     let on = runs (before ++ asked) (bytes_for h.exchanges) each.3 in
-    answered_more known start now d e given h (answered shown canonical found on.0) gave' each.2
+    answered_more known start now d e given h (answered numbering shown canonical found on.0) gave'
+    (past_counts d before (bytes_for h.exchanges) h.past h.sent, each.2)
     (subst (λ l. Past e l (bytes_for h.exchanges)) (append_assoc before asked (slice on.0 ∷ [])) on.1)
 
 -- no body came

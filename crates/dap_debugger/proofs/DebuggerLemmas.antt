@@ -1,13 +1,13 @@
-use Rattle.std.proofs.Common.{◌≡◌, ℕ, ◌+◌, List, [], ◌∷◌, ◌++◌, length, refl, arith, sym, ◌∙◌, ap, subst}
-use Rattle.std.proofs.Common.{append_assoc, length-append}
+use Rattle.std.proofs.Common.{◌≡◌, ℕ, List, [], ◌∷◌, ◌++◌, refl, sym, ◌∙◌, ap, subst}
+use Rattle.std.proofs.Common.{append_assoc}
 use Rattle.std.proofs.lemmas.List.{append-nil}
 use Rattle.dap_messages.specs.declared.message.Message.{Message}
 use Rattle.dap_record.specs.Recordings.{RecordedState, recorded_before_requests}
 use Rattle.dap_record.specs.Slices.{Input, step, play_all}
 use Rattle.dap_record.specs.Represents.{RepresentsRecorded, Tells}
-use Rattle.dap_debugger.specs.Sending.{sent_bytes, concat_messages}
+use Rattle.dap_debugger.specs.Sending.{at_start, after_messages, sent_bytes, concat_messages}
 use Rattle.dap_debugger.specs.Debuggers.{DebuggerState, Past}
-use Rattle.dap_debugger.proofs.SendingLemmas.{sent_bytes-append}
+use Rattle.dap_debugger.proofs.SendingLemmas.{after_messages-append, sent_bytes-append}
 
 -- one input more
 pub played_messages : (inputs : List Input) (input : Input) (s : RecordedState)
@@ -36,10 +36,10 @@ joined_push (list ∷ lists) messages =
 pub past_more : (old new : DebuggerState) (inputs : List Input) (bytes : List ℕ) (input : Input)
     (messages : List Message) (lists all : List (List Message)) → Past old inputs bytes
     → Tells (step input (play_all inputs recorded_before_requests).state) messages new.session
-    → new.sent ≡ old.sent
+    → new.progress ≡ old.progress
     → old.told ≡ concat_messages lists → all ≡ lists ++ messages ∷ [] → new.told ≡ concat_messages all
     → Past new (inputs ++ input ∷ []) bytes
-past_more old new inputs bytes input messages lists all p tells sent old_is all_is new_is =
+past_more old new inputs bytes input messages lists all p tells same old_is all_is new_is =
     let before = (play_all inputs recorded_before_requests).messages in
     let told : new.told ≡ old.told ++ messages =
     new_is ∙ (ap concat_messages all_is ∙
@@ -51,22 +51,23 @@ past_more old new inputs bytes input messages lists all p tells sent old_is all_
       messages = played_messages inputs input recorded_before_requests
           ∙ (ap (λ m. before ++ m) (sym tells.messages_are) ∙ (ap (λ m. m ++ messages) p.messages
           ∙ (append_assoc p.before old.told messages ∙ ap (λ m. p.before ++ m) (sym told))));
-      count = sent ∙ p.count;
+      progress = same ∙ p.progress;
       wrote = p.wrote;
     }
 
 -- all that waits is sent
 pub past_sent : (old new : DebuggerState) (inputs : List Input) (bytes more : List ℕ) → Past old inputs bytes
-    → new.session ≡ old.session → new.told ≡ [] → new.sent ≡ old.sent + length old.told
-    → more ≡ sent_bytes old.sent old.told → Past new inputs (bytes ++ more)
-past_sent old new inputs bytes more p session told sent is = record {
+    → new.session ≡ old.session → new.told ≡ [] → new.progress ≡ after_messages old.progress old.told
+    → more ≡ sent_bytes old.progress old.told → Past new inputs (bytes ++ more)
+past_sent old new inputs bytes more p session told on is = record {
   session = subst (λ v. RepresentsRecorded v (play_all inputs recorded_before_requests).state) (sym session)
       p.session;
   before = p.before ++ old.told;
   messages = p.messages ∙ (sym (append-nil (p.before ++ old.told))
       ∙ ap (λ m. (p.before ++ old.told) ++ m) (sym told));
-  count = (let c = p.count in omega (arith, sent, c, length-append p.before old.told));
-  wrote = ap (λ b. b ++ more) p.wrote ∙ (ap (λ b. sent_bytes 0 p.before ++ b) (is
-      ∙ ap (λ n. sent_bytes n old.told) (p.count ∙ omega arith))
-      ∙ sym (sent_bytes-append 0 p.before old.told));
+  progress = on ∙ (ap (λ q. after_messages q old.told) p.progress
+      ∙ sym (after_messages-append at_start p.before old.told));
+  wrote = ap (λ b. b ++ more) p.wrote ∙ (ap (λ b. sent_bytes at_start p.before ++ b) (is
+      ∙ ap (λ q. sent_bytes q old.told) p.progress)
+      ∙ sym (sent_bytes-append at_start p.before old.told));
 }

@@ -5,6 +5,8 @@ use Rattle.std.specs.List.{flat_map}
 use Rattle.base_text.specs.Bytes.{Bytes, Text}
 use Rattle.base_streams.specs.States.{OutletState}
 use Rattle.base_streams.specs.Told.{Took, TookPrefix}
+use Rattle.dap_messages.specs.declared.message.Numbering.{Numbering}
+use Rattle.dap_messages.specs.Numbering.{numbering_of}
 use Rattle.dap_editor.specs.declared.request.EditorRequest.{EditorRequest}
 use Rattle.dap_launch.specs.declared.file.FileText.{FileText}
 use Rattle.dap_launch.specs.Paths.{path_in, with_canonical}
@@ -17,32 +19,32 @@ use Rattle.dap_debugger.specs.declared.incoming.Incoming.TheVariants as incoming
 use Rattle.dap_debugger.specs.declared.conversation.ConversationEnd.{ConversationEnd}
 use Rattle.dap_debugger.specs.declared.conversation.ConversationEnd.TheVariants as end
 use Rattle.dap_debugger.specs.Requests.{request_of}
-use Rattle.dap_debugger.specs.Sending.{sent_bytes}
+use Rattle.dap_debugger.specs.Sending.{at_start, sent_bytes}
 use Rattle.dap_debugger.specs.Given.{Gave}
 use Rattle.dap_debugger.specs.KnownFiles.{KnownFiles}
 use Rattle.dap_debugger.specs.Debuggers.{DebuggerState, Past}
 
 -- ---- exchanges
 
--- A body that was answered, with the canonical path of the file that its request names, if one was found, and
--- what was found at the path that the request needs; or no body came, and the run went on. Each says
--- whether a search backward came to its end in it.
+-- A body that was answered, with how the editor counts lines in it, the canonical path of the file that its
+-- request names, if one was found, and what was found at the path that the request needs; or no body came,
+-- and the run went on. Each says whether a search backward came to its end in it.
 pub data Exchange : Type 0 where
-  answered : Bytes → Option Text → Option FileText → Bool → Exchange
+  answered : Numbering → Bytes → Option Text → Option FileText → Bool → Exchange
   idle : Bool → Exchange
 
 abbrev pub incoming_of : Exchange → Incoming
-incoming_of (answered body canonical found finds) = incoming.Body body
+incoming_of (answered numbering body canonical found finds) = incoming.Body body
 incoming_of (idle finds) = incoming.Nothing
 
 -- the request in a body, with this canonical path of the file that it names
-abbrev pub asked_in : Bytes → Option Text → EditorRequest
-asked_in body canonical = with_canonical canonical (request_of body)
+abbrev pub asked_in : Numbering → Bytes → Option Text → EditorRequest
+asked_in numbering body canonical = with_canonical canonical (request_of numbering body)
 
 -- the request, and a slice of the run, which is nothing if no run goes on
 abbrev pub inputs_in : Exchange → List Input
-inputs_in (answered body canonical found finds) =
-    request (asked_in body canonical) found ∷ slice finds ∷ []
+inputs_in (answered numbering body canonical found finds) =
+    request (asked_in numbering body canonical) found ∷ slice finds ∷ []
 inputs_in (idle finds) = slice finds ∷ []
 
 abbrev pub inputs_of : List Exchange → List Input
@@ -54,7 +56,14 @@ session_after exchanges = (play_all (inputs_of exchanges) recorded_before_reques
 
 -- all that is sent in them
 abbrev pub bytes_for : List Exchange → Bytes
-bytes_for exchanges = sent_bytes 0 (play_all (inputs_of exchanges) recorded_before_requests).messages
+bytes_for exchanges = sent_bytes at_start (play_all (inputs_of exchanges) recorded_before_requests).messages
+
+-- how the editor counts after inputs
+abbrev pub numbering_by : List Input → Numbering
+numbering_by inputs = numbering_of (play_all inputs recorded_before_requests).messages
+
+abbrev pub numbering_after : List Exchange → Numbering
+numbering_after exchanges = numbering_by (inputs_of exchanges)
 
 -- ---- files
 
@@ -74,18 +83,21 @@ IsFound known None found = found ≡ None
 IsFound known (Some path) found = (file : FileText) × (found ≡ Some file) × known.may_find path file
 
 -- both for the request in a body
-abbrev pub FindsFor : KnownFiles → Bytes → Option Text → Option FileText → SessionState → Type 0
-FindsFor known body canonical found s = IsCanonical known (path_in (request_of body).asked) canonical
-    × IsFound known (wanted_file (asked_in body canonical).asked s) found
+abbrev pub FindsFor : KnownFiles → EditorRequest → Option Text → Option FileText → SessionState → Type 0
+FindsFor known r canonical found s = IsCanonical known (path_in r.asked) canonical
+    × IsFound known (wanted_file (with_canonical canonical r).asked s) found
 
-abbrev pub FindsIn : KnownFiles → Exchange → SessionState → Type 0
-FindsIn known (answered body canonical found finds) s = FindsFor known body canonical found s
-FindsIn known (idle finds) s = Unit {0}
+-- by the exchanges before
+abbrev pub FindsIn : KnownFiles → Exchange → List Exchange → Type 0
+FindsIn known (answered numbering body canonical found finds) before =
+    (numbering ≡ numbering_after before)
+    × FindsFor known (request_of numbering body) canonical found (session_after before)
+FindsIn known (idle finds) before = Unit {0}
 
--- in each exchange, by the session before it
+-- in each exchange
 abbrev pub FindsFiles : KnownFiles → List Exchange → Type 0
 FindsFiles known exchanges = (before after : List Exchange) (x : Exchange)
-    → exchanges ≡ before ++ x ∷ after → FindsIn known x (session_after before)
+    → exchanges ≡ before ++ x ∷ after → FindsIn known x before
 
 -- ---- a conversation
 
@@ -109,7 +121,8 @@ EndsBy end.WriteFailed exchanges last old new =
 EndsBy end.OutOfMemory exchanges last old new = (length last ≤ 1) × Took old new (bytes_for exchanges)
 
 -- All that the source gave was answered in its order, each body by what the session says of it and of what
--- may be found. What went out are the messages of these exchanges. None but the last answered a disconnect.
+-- may be found, with lines and columns as the editor counts them by what was sent before. What went out are
+-- the messages of these exchanges. None but the last answered a disconnect.
 pub record Converses (known : KnownFiles) (old new : Ports) (how : ConversationEnd) : Type 0 where
   pub exchanges : List Exchange
   pub last : List Incoming
@@ -136,8 +149,9 @@ pub record HasConversed (known : KnownFiles) (old new : Ports) (d : DebuggerStat
 pub record Answers (known : KnownFiles) (body : Bytes) (old new : DebuggerState) : Type 0 where
   pub each : (inputs : List Input) (bytes : Bytes) → Past old inputs bytes
       → (canonical : Option Text) × (found : Option FileText)
-      × FindsFor known body canonical found (play_all inputs recorded_before_requests).state.session
-      × Past new (inputs ++ request (asked_in body canonical) found ∷ []) bytes
+      × FindsFor known (request_of old.progress.numbering body) canonical found
+      (play_all inputs recorded_before_requests).state.session
+      × Past new (inputs ++ request (asked_in old.progress.numbering body canonical) found ∷ []) bytes
 
 -- what waited is written
 pub record Writes (old new : DebuggerState) (from to : OutletState) : Type 0 where

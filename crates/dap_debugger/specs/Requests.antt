@@ -4,6 +4,7 @@ use Rattle.std.specs.Str.{is_utf8}
 use Rattle.base_text.specs.Bytes.{Bytes}
 use Rattle.serde_json.specs.Data.{Data}
 use Rattle.serde_json.specs.Read.{read}
+use Rattle.dap_messages.specs.declared.message.Numbering.{Numbering}
 use Rattle.dap_editor.specs.declared.request.EditorRequest.{EditorRequest}
 use Rattle.dap_editor.specs.Reading.{editor_request, unreadable}
 
@@ -13,9 +14,10 @@ unfoldable pub json_of : Bytes → Option Data
 json_of body = if is_utf8 body then read body else None
 
 -- a body that isn't JSON is read as a request that is none
-abbrev pub request_in : Option Data → EditorRequest
-request_in None = unreadable
-request_in (Some json) = editor_request json
+abbrev pub request_in : Numbering → Option Data → EditorRequest
+request_in numbering None = unreadable
+request_in numbering (Some json) = editor_request numbering json
 
-abbrev pub request_of : Bytes → EditorRequest
-request_of body = request_in (json_of body)
+-- the request in a body of an editor that counts so
+abbrev pub request_of : Numbering → Bytes → EditorRequest
+request_of numbering body = request_in numbering (json_of body)

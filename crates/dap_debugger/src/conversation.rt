@@ -91,7 +91,7 @@ fn answer_body<F: ProgramFiles>(
 ) -> Result<(), AllocError>
     ensures { OnOk result (Answers (F.known files.now) body.now debugger.old debugger.new) }
 {
-    let request = read_request(alloc, body)?;
+    let request = read_request(alloc, debugger.numbering(), body)?;
     let request = resolve(alloc, files, request)?;
     match find_file(alloc, debugger, files, &request) {
         Ok(file) => debugger.answer(alloc, request, file),

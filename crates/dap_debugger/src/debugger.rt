@@ -3,20 +3,20 @@ ghost use Rattle.std.specs.Prelude.{◌≡◌, ◌∷◌, ◌++◌, [], List, If
 ghost use Rattle.base_text.specs.Bytes.{Bytes};
 ghost use Rattle.dap_record.specs.Slices.{Input, request as asks};
 
-use crate::sending::put_all;
+use crate::sending::{Progress, put_all};
 use base_text::sequence::{Bytes, Sequence};
 use dap_editor::request::EditorRequest;
 use dap_launch::file::FileText;
-use dap_messages::message::Message;
+use dap_messages::message::{Message, Numbering};
 use dap_record::recorded::RecordedSession;
 use std::alloc::{AllocError, Global};
 use std::marker::Model;
 
-/// A session, the number of its messages that were sent, and those that wait to be sent.
+/// A session, how far its messages were sent, and those that wait to be sent.
 #[derive(Drop)]
 pub struct Debugger {
     session: RecordedSession,
-    sent: u64,
+    progress: Progress,
     told: Vec<Sequence<Message>>,
 }
 
@@ -30,7 +30,11 @@ impl Model for Debugger {
 
     ghost coded = { Prim.hlevel (codes, expr.the_row.coded) };
 
-    ghost view = { λ d. record { session = d.session; sent = d.sent; told = concat_messages d.told.items } };
+    ghost view = { λ d. record {
+      session = d.session;
+      progress = d.progress;
+      told = concat_messages d.told.items;
+    } };
 }
 
 impl Debugger {
@@ -43,7 +47,7 @@ impl Debugger {
         let session = RecordedSession::new(alloc)?;
         Ok(Debugger {
             session,
-            sent: 0,
+            progress: Progress::start(),
             told: Vec::new(alloc),
         })
     }
@@ -59,7 +63,8 @@ impl Debugger {
     ) -> Result<(), AllocError>
         ensures ok { (inputs : List Input) (bytes : Bytes) → Past self.old inputs bytes
             → OnOk result (Past self.new (inputs ++ asks request file ∷ []) bytes) }
-        ensures err { OnErr result ((self.new.sent ≡ self.old.sent) × (self.new.told ≡ self.old.told)) }
+        ensures err { OnErr result
+            ((self.new.progress ≡ self.old.progress) × (self.new.told ≡ self.old.told)) }
     {
         self.told.reserve(1)?;
         let messages = self.session.take(alloc, request, file)?;
@@ -72,7 +77,8 @@ impl Debugger {
     pub fn run(&mut self, alloc: Global) -> Result<(), AllocError>
         ensures ok { (inputs : List Input) (bytes : Bytes) → Past self.old inputs bytes
             → OnOk result (PastSlice self.new inputs bytes) }
-        ensures err { OnErr result ((self.new.sent ≡ self.old.sent) × (self.new.told ≡ self.old.told)) }
+        ensures err { OnErr result
+            ((self.new.progress ≡ self.old.progress) × (self.new.told ≡ self.old.told)) }
     {
         self.told.reserve(1)?;
         let messages = self.session.run(alloc)?;
@@ -88,9 +94,16 @@ impl Debugger {
         ensures err { OnErr result (self.new ≡ self.old) }
     {
         let mut out = Vec::new(alloc);
-        self.sent = put_all(alloc, self.sent, &self.told, &mut out)?;
+        self.progress = put_all(alloc, self.progress, &self.told, &mut out)?;
         self.told.clear();
         Ok(Bytes::from(out))
+    }
+
+    /// How the editor counts lines and columns, by the messages that were sent.
+    pub fn numbering(&self) -> Numbering
+        ensures { result ≡ self.now.progress.numbering }
+    {
+        self.progress.numbering
     }
 
     /// The session that answers the requests.

@@ -5,6 +5,7 @@ ghost use Rattle.dap_debugger.specs.Requests.{json_of, request_of};
 
 use dap_editor::reading::read_editor_request;
 use dap_editor::request::EditorRequest;
+use dap_messages::message::Numbering;
 use serde_json::Value;
 use std::alloc::{AllocError, Global};
 
@@ -19,13 +20,17 @@ fn read_json(alloc: Global, body: &[u8]) -> Result<Option<Value>, AllocError>
     }
 }
 
-/// The request in a body. A body that isn't JSON (RFC 8259), or that nests more than 127 arrays and
-/// objects, is read as a request that is no request (`RequestFault::NotRequest`).
-pub fn read_request(alloc: Global, body: &[u8]) -> Result<EditorRequest, AllocError>
-    ensures { IfOk result (λ request. request ≡ request_of body.now) }
+/// The request in a body of an editor that counts so. A body that isn't JSON (RFC 8259), or that nests more
+/// than 127 arrays and objects, is read as a request that is no request (`RequestFault::NotRequest`).
+pub fn read_request(
+    alloc: Global,
+    numbering: Numbering,
+    body: &[u8],
+) -> Result<EditorRequest, AllocError>
+    ensures { IfOk result (λ request. request ≡ request_of numbering body.now) }
 {
     match read_json(alloc, body)? {
-        Some(value) => read_editor_request(alloc, &value),
+        Some(value) => read_editor_request(alloc, numbering, &value),
         None => Ok(EditorRequest::unreadable(alloc)),
     }
 }

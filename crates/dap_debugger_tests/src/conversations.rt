@@ -25,7 +25,7 @@ const LETTER: &str = r#"
     "supportsReadMemoryRequest":true,"supportsRestartRequest":true,"supportsSetExpression":true,
     "supportsSetVariable":true,
     "supportsStepBack":true,"supportsSteppingGranularity":true,"supportsTerminateRequest":true,
-    "supportsWriteMemoryRequest":true},"command":"initialize","request_seq":1,"seq":1,"success":true,
+    "supportsValueFormattingOptions":true,"supportsWriteMemoryRequest":true},"command":"initialize","request_seq":1,"seq":1,"success":true,
     "type":"response"}
 > {"seq":2,"type":"request","command":"launch","arguments":{"program":"letter.asm"}}
 < {"body":{},"command":"launch","request_seq":2,"seq":2,"success":true,"type":"response"}
@@ -60,7 +60,7 @@ const LOOP: &str = r#"
     "supportsReadMemoryRequest":true,"supportsRestartRequest":true,"supportsSetExpression":true,
     "supportsSetVariable":true,
     "supportsStepBack":true,"supportsSteppingGranularity":true,"supportsTerminateRequest":true,
-    "supportsWriteMemoryRequest":true},"command":"initialize","request_seq":2,"seq":2,"success":true,
+    "supportsValueFormattingOptions":true,"supportsWriteMemoryRequest":true},"command":"initialize","request_seq":2,"seq":2,"success":true,
     "type":"response"}
 > {"seq":3,"type":"request","command":"launch","arguments":{"program":"other.asm"}}
 < {"command":"launch","message":"no file","request_seq":3,"seq":3,"success":false,"type":"response"}
@@ -94,7 +94,7 @@ const BACK: &str = r#"
     "supportsReadMemoryRequest":true,"supportsRestartRequest":true,"supportsSetExpression":true,
     "supportsSetVariable":true,
     "supportsStepBack":true,"supportsSteppingGranularity":true,"supportsTerminateRequest":true,
-    "supportsWriteMemoryRequest":true},"command":"initialize","request_seq":1,"seq":1,"success":true,
+    "supportsValueFormattingOptions":true,"supportsWriteMemoryRequest":true},"command":"initialize","request_seq":1,"seq":1,"success":true,
     "type":"response"}
 > {"seq":2,"type":"request","command":"launch","arguments":{"program":"letters.asm","stopOnEntry":true}}
 < {"body":{},"command":"launch","request_seq":2,"seq":2,"success":true,"type":"response"}
@@ -165,7 +165,7 @@ const SEARCH: &str = r#"
     "supportsReadMemoryRequest":true,"supportsRestartRequest":true,"supportsSetExpression":true,
     "supportsSetVariable":true,
     "supportsStepBack":true,"supportsSteppingGranularity":true,"supportsTerminateRequest":true,
-    "supportsWriteMemoryRequest":true},"command":"initialize","request_seq":2,"seq":2,"success":true,
+    "supportsValueFormattingOptions":true,"supportsWriteMemoryRequest":true},"command":"initialize","request_seq":2,"seq":2,"success":true,
     "type":"response"}
 > {"seq":3,"type":"request","command":"launch","arguments":{"program":"other.asm"}}
 < {"command":"launch","message":"no file","request_seq":3,"seq":3,"success":false,"type":"response"}
@@ -221,7 +221,7 @@ const PATHS: &str = r#"
     "supportsReadMemoryRequest":true,"supportsRestartRequest":true,"supportsSetExpression":true,
     "supportsSetVariable":true,
     "supportsStepBack":true,"supportsSteppingGranularity":true,"supportsTerminateRequest":true,
-    "supportsWriteMemoryRequest":true},"command":"initialize","request_seq":1,"seq":1,"success":true,
+    "supportsValueFormattingOptions":true,"supportsWriteMemoryRequest":true},"command":"initialize","request_seq":1,"seq":1,"success":true,
     "type":"response"}
 > {"seq":2,"type":"request","command":"launch","arguments":{"program":"./letters.asm"}}
 < {"body":{},"command":"launch","request_seq":2,"seq":2,"success":true,"type":"response"}

@@ -1,3 +1,1 @@
-pub mod GranularityLemmas
 pub mod ListLemmas
-pub mod Base64Lemmas

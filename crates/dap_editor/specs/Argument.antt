@@ -1,17 +1,9 @@
--- The arguments of an editor's request, and the kinds of arguments that only editors' commands have.
+-- The kinds of arguments that only editors' commands have.
 use Rattle.std.specs.Prelude.{
   ℕ,
-  ℤ,
-  pos,
-  negsuc,
-  ◌+◌,
-  ◌-◌,
-  ◌≤◌,
-  nat_le,
   ◌&&◌,
   ◌||◌,
   if◌then◌else◌,
-  length,
   List,
   [],
   ◌∷◌,
@@ -25,77 +17,32 @@ use Rattle.std.specs.Prelude.{
   option_map,
   option_and_then,
   unwrap_or,
-  Result,
-  ok_or,
   codes,
 }
 use Rattle.std.specs.Str.{bytes_eq}
-use Rattle.base_text.specs.Bytes.{Bytes, Text}
-use Rattle.base64.specs.Engines.{standard}
-use Rattle.base64.specs.GeneralPurpose.{decoded_of}
+use Rattle.base_text.specs.Bytes.{Text}
 use Rattle.serde_json.specs.Data.{Data, Items, no_items, item}
-use Rattle.serde_json.specs.Find.{get, as_number, as_i64, as_str, as_array, as_null}
-use Rattle.lab_shown.specs.declared.step.Granularity.{Granularity}
-use Rattle.dap_talk.specs.Argument.{granularity_of}
-use Rattle.dap_talk.specs.Argument.{argument_at, at_most_256, address_of, text_at, when_between}
-use Rattle.dap_talk.specs.Argument.{whole_between}
-use Rattle.dap_editor.specs.declared.request.SignedOffset.{SignedOffset}
-use Rattle.dap_editor.specs.declared.request.SignedOffset.TheVariants.{Forward, Back}
+use Rattle.serde_json.specs.Find.{get, as_bool, as_str, as_array, as_null}
+use Rattle.dap_talk.specs.Argument.{at_most_256, address_of, text_at, member_at}
+use Rattle.dap_arguments.specs.declared.offset.SignedOffset.{SignedOffset}
+use Rattle.dap_arguments.specs.declared.offset.SignedOffset.TheVariants.{Forward}
+use Rattle.dap_arguments.specs.Argument.{kind_or, any_number, shift, address_at}
+use Rattle.dap_messages.specs.declared.message.BreakpointOptions.{BreakpointOptions}
+use Rattle.dap_messages.specs.declared.message.Numbering.{Numbering}
+use Rattle.dap_messages.specs.declared.message.OperandStyle.{OperandStyle}
+use Rattle.dap_messages.specs.declared.message.OperandStyle.TheVariants.{Numbers, Labels}
+use Rattle.dap_messages.specs.declared.message.ValueFormat.{ValueFormat}
+use Rattle.dap_messages.specs.declared.message.ValueFormat.TheVariants.{Hexadecimal, Decimal}
+use Rattle.dap_messages.specs.Numbering.{line_meant}
 use Rattle.dap_editor.specs.declared.request.ExceptionFilters.{ExceptionFilters}
 use Rattle.dap_editor.specs.declared.request.EvaluateContext.{EvaluateContext}
 use Rattle.dap_editor.specs.declared.request.EvaluateContext.TheVariants.{Repl, Watch, Other}
-use Rattle.dap_messages.specs.declared.message.BreakpointOptions.{BreakpointOptions}
 use Rattle.dap_editor.specs.declared.request.LineBreakpoint.{LineBreakpoint}
 use Rattle.dap_editor.specs.declared.request.FunctionBreakpoint.{FunctionBreakpoint}
 use Rattle.dap_editor.specs.declared.request.DataBreakpoint.{DataBreakpoint}
 use Rattle.dap_editor.specs.declared.request.InstructionBreakpoint.{InstructionBreakpoint}
 
--- ---- where they stand
-
--- the argument at a key as one of this kind
-abbrev pub required_argument : {T : Type 0} → Text → (Data → Option T) → Data → Option T
-required_argument key kind request = option_and_then (option_and_then kind) (argument_at key request)
-
-abbrev pub kind_or : {T : Type 0} → (Data → Option T) → T → Option Data → Option T
-kind_or kind absent None = Some absent
-kind_or kind absent (Some d) = kind d
-
--- the same, or a default if the argument is absent
-abbrev pub optional : {T : Type 0} → Text → (Data → Option T) → T → Data → Option T
-optional key kind absent request = option_and_then (kind_or kind absent) (argument_at key request)
-
--- a required argument, or its name if it isn't of its kind
-abbrev pub required_value : {T : Type 0} → Text → (Data → Option T) → Data → Result T Text
-required_value key kind request = ok_or (required_argument key kind request) key
-
--- the same of one that may be absent
-abbrev pub value_or : {T : Type 0} → Text → (Data → Option T) → T → Data → Result T Text
-value_or key kind absent request = ok_or (optional key kind absent request) key
-
--- ---- their kinds
-
--- `0x` and four hexadecimal digits
-abbrev pub address : Data → Option ℕ
-address d = option_and_then address_of (as_str d)
-
--- forward up to 4,294,967,295, and back up to a limit
-abbrev pub shift_within : ℕ → ℤ → Option SignedOffset
-shift_within limit (pos n) = option_map Forward (when_between 0 4294967295 n)
-shift_within limit (negsuc n) = option_map Back (when_between 1 limit (n + 1))
-
--- a whole number, written without fraction and exponent, and not `-0`
-abbrev pub shift : ℕ → Data → Option SignedOffset
-shift limit d = option_and_then (shift_within limit) (option_and_then as_i64 (as_number d))
-
--- not back beyond a limit
-abbrev pub IsBackWithin : ℕ → SignedOffset → Type 0
-IsBackWithin limit (Forward n) = Unit {0}
-IsBackWithin limit (Back n) = n ≤ limit
-
--- the address at this distance from another, if there is one
-abbrev pub address_at : ℕ → SignedOffset → Option ℕ
-address_at from (Forward n) = if nat_le (from + n) 65535 then Some (from + n) else None
-address_at from (Back n) = if nat_le n from then Some (from - n) else None
+-- ---- how values are shown
 
 -- `repl`, `watch`, or any other text
 abbrev pub context_named : Text → EvaluateContext
@@ -106,9 +53,17 @@ context_named name =
 abbrev pub context : Data → Option EvaluateContext
 context d = option_map context_named (as_str d)
 
--- `instruction`, or any other text
-abbrev pub granularity : Data → Option Granularity
-granularity d = option_map granularity_of (as_str d)
+-- `hex` of a format
+abbrev pub hex : Data → Option ValueFormat
+hex d = option_map (λ is_hex. if is_hex then Hexadecimal else Decimal) (as_bool d)
+
+-- an object; in hexadecimal unless its `hex` is false
+abbrev pub value_format : Data → Option ValueFormat
+value_format d = option_and_then (kind_or hex Hexadecimal) (member_at (codes "hex") d)
+
+-- whether symbols are to be resolved
+abbrev pub operand_style : Data → Option OperandStyle
+operand_style d = option_map (λ resolves. if resolves then Labels else Numbers) (as_bool d)
 
 -- ---- the filters of ends
 
@@ -175,10 +130,14 @@ abbrev pub has_texts : Data → Bool
 has_texts d = has_text_conditions d && is_text_or_unset (codes "logMessage") d
 
 -- on a line
-abbrev pub line_of : Data → Option LineBreakpoint
-line_of d =
-    option_map (λ n. record { line = n; options = options_of d; has_texts = has_texts d })
-    (option_and_then (whole_between 0 4294967295) (get (codes "line") d))
+abbrev pub line_of : Numbering → Data → Option LineBreakpoint
+line_of numbering d =
+    option_map (λ n. record {
+      line = line_meant numbering n;
+      options = options_of d;
+      has_texts = has_texts d;
+    })
+    (option_and_then any_number (get (codes "line") d))
 
 -- at a label
 abbrev pub function_of : Data → Option FunctionBreakpoint
@@ -232,8 +191,8 @@ all_of kind (item d ds) = option_and_then (λ x. option_map (λ xs. x ∷ xs) (a
 abbrev pub breakpoints : Data → Option Items
 breakpoints d = option_and_then at_most_256 (as_array d)
 
-abbrev pub lines : Data → Option (List LineBreakpoint)
-lines d = option_and_then (all_of line_of) (breakpoints d)
+abbrev pub lines : Numbering → Data → Option (List LineBreakpoint)
+lines numbering d = option_and_then (all_of (line_of numbering)) (breakpoints d)
 
 abbrev pub functions : Data → Option (List FunctionBreakpoint)
 functions d = option_and_then (all_of function_of) (breakpoints d)
@@ -243,14 +202,3 @@ data_breakpoints d = option_and_then (all_of data_breakpoint_of) (breakpoints d)
 
 abbrev pub instructions : Data → Option (List InstructionBreakpoint)
 instructions d = option_and_then (all_of instruction_of) (breakpoints d)
-
--- the bytes that a text has in base64 (RFC 4648, section 4: the standard alphabet, padded)
-unfoldable pub bytes_of : Text → Option Bytes
-bytes_of text = decoded_of standard text
-
-abbrev pub at_most_65536 : Bytes → Option Bytes
-at_most_65536 bytes = if nat_le (length bytes) 65536 then Some bytes else None
-
--- at most 65,536 bytes, in base64
-abbrev pub base64 : Data → Option Bytes
-base64 d = option_and_then at_most_65536 (option_and_then bytes_of (as_str d))

@@ -1,4 +1,3 @@
 pub mod Argument
-pub mod Answer
 pub mod Table
 pub mod Reading

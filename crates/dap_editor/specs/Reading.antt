@@ -24,6 +24,8 @@ use Rattle.dap_answers.specs.Json.{object_of, whole_number}
 use Rattle.dap_talk.specs.Table as table
 use Rattle.dap_talk.specs.Reading.{Envelope, envelope_of, Reading, not_request, unknown_command}
 use Rattle.dap_talk.specs.Reading.{bad_arguments, request, reading}
+use Rattle.dap_arguments.specs.Argument.{IsBackWithin}
+use Rattle.dap_messages.specs.declared.message.Numbering.{Numbering}
 use Rattle.dap_editor.specs.declared.name.EditorName.{EditorName}
 use Rattle.dap_editor.specs.declared.request.EditorCommand.{EditorCommand}
 use Rattle.dap_editor.specs.declared.request.EditorCommand.TheVariants as command
@@ -32,7 +34,6 @@ use Rattle.dap_editor.specs.declared.request.RequestFault.TheVariants.{Arguments
 use Rattle.dap_editor.specs.declared.request.RequestContent.{RequestContent}
 use Rattle.dap_editor.specs.declared.request.RequestContent.TheVariants.{Board, Editor, Faulty}
 use Rattle.dap_editor.specs.declared.request.EditorRequest.{EditorRequest}
-use Rattle.dap_editor.specs.Argument.{IsBackWithin}
 use Rattle.dap_editor.specs.Table.{command_named, command_asked}
 
 -- ---- arguments that are `null`
@@ -65,9 +66,9 @@ abbrev pub asked_of_editor : Result EditorCommand Text → RequestContent
 asked_of_editor (Ok c) = Editor c
 asked_of_editor (Err name) = Faulty (Argument name)
 
-abbrev pub asked_by : Option EditorName → Data → RequestContent
-asked_by (Some name) d = asked_of_editor (command_asked name d)
-asked_by None d = asked_of_board (reading d)
+abbrev pub asked_by : Numbering → Option EditorName → Data → RequestContent
+asked_by numbering (Some name) d = asked_of_editor (command_asked numbering name d)
+asked_by numbering None d = asked_of_board (reading d)
 
 -- ---- the request
 
@@ -75,16 +76,20 @@ asked_by None d = asked_of_board (reading d)
 abbrev pub unreadable : EditorRequest
 unreadable = record { seq = 0; command = []; asked = Faulty NotRequest }
 
-abbrev pub request_of : Envelope → Data → EditorRequest
-request_of e d = record { seq = e.seq; command = e.command; asked = asked_by (command_named e.command) d }
+abbrev pub request_of : Numbering → Envelope → Data → EditorRequest
+request_of numbering e d = record {
+  seq = e.seq;
+  command = e.command;
+  asked = asked_by numbering (command_named e.command) d;
+}
 
-abbrev pub request_in : Data → Option Envelope → EditorRequest
-request_in d None = unreadable
-request_in d (Some e) = request_of e (without_null e d)
+abbrev pub request_in : Numbering → Data → Option Envelope → EditorRequest
+request_in numbering d None = unreadable
+request_in numbering d (Some e) = request_of numbering e (without_null e d)
 
--- its number and command with what it asks for
-unfoldable pub editor_request : Data → EditorRequest
-editor_request d = request_in d (envelope_of d)
+-- its number and command with what it asks for, where lines and columns count so
+unfoldable pub editor_request : Numbering → Data → EditorRequest
+editor_request numbering d = request_in numbering d (envelope_of d)
 
 -- ---- the bounds that every request has that was read
 
@@ -94,7 +99,7 @@ IsCommandBounded (command.SetFunctionBreakpoints functions) = length functions �
 IsCommandBounded (command.SetDataBreakpoints breakpoints) = length breakpoints ≤ 256
 IsCommandBounded (command.SetInstructionBreakpoints breakpoints) = length breakpoints ≤ 256
 IsCommandBounded (command.WriteMemory to offset bytes) = length bytes ≤ 65536
-IsCommandBounded (command.Disassemble from offset instructions count) =
+IsCommandBounded (command.Disassemble from offset instructions count operands) =
     (1 ≤ count) × (count ≤ 1024) × IsBackWithin 65536 instructions
 IsCommandBounded other = Unit {0}
 

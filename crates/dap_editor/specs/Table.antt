@@ -3,6 +3,7 @@
 use Rattle.std.specs.Prelude.{
   ℕ,
   Bool,
+  true,
   false,
   not,
   if◌then◌else◌,
@@ -13,7 +14,6 @@ use Rattle.std.specs.Prelude.{
   Some,
   None,
   is_some,
-  option_map,
   unwrap_or,
   Result,
   Ok,
@@ -27,19 +27,23 @@ use Rattle.serde_json.specs.Data.{Data}
 use Rattle.serde_json.specs.Find.{get, as_str, as_bool, as_null}
 use Rattle.lab_shown.specs.declared.step.Granularity.TheVariants.{Line}
 use Rattle.dap_talk.specs.Argument.{text_at, whole_between}
+use Rattle.dap_arguments.specs.declared.offset.SignedOffset.TheVariants.{Forward}
+use Rattle.dap_arguments.specs.Argument.{required_value, value_or, byte, word, some_word, any_number}
+use Rattle.dap_arguments.specs.Argument.{memory_reference, shift, offset, granularity, base64}
+use Rattle.dap_messages.specs.declared.message.Numbering.{Numbering}
+use Rattle.dap_messages.specs.declared.message.OperandStyle.TheVariants.{Numbers}
+use Rattle.dap_messages.specs.declared.message.ValueFormat.{ValueFormat}
+use Rattle.dap_messages.specs.declared.message.ValueFormat.TheVariants.{Hexadecimal}
+use Rattle.dap_messages.specs.Numbering.{line_meant, column_meant}
 use Rattle.dap_editor.specs.declared.name.EditorName.{EditorName}
 use Rattle.dap_editor.specs.declared.name.EditorName.TheVariants as name
-use Rattle.dap_editor.specs.declared.request.SignedOffset.{SignedOffset}
-use Rattle.dap_editor.specs.declared.request.SignedOffset.TheVariants.{Forward}
 use Rattle.dap_editor.specs.declared.request.EvaluateContext.TheVariants.{Other}
-use Rattle.dap_editor.specs.declared.request.SupportedEvents.{SupportedEvents}
 use Rattle.dap_editor.specs.declared.request.Launch.{Launch}
 use Rattle.dap_editor.specs.declared.request.VariablesCommand.{VariablesCommand}
 use Rattle.dap_editor.specs.declared.request.EditorCommand.{EditorCommand}
 use Rattle.dap_editor.specs.declared.request.EditorCommand.TheVariants as command
 use Rattle.dap_editor.specs.declared.request.VariablesCommand.TheVariants as variables
-use Rattle.dap_editor.specs.Argument.{required_value, value_or, address, shift, context, base64}
-use Rattle.dap_editor.specs.Argument.{granularity, filters, no_filters}
+use Rattle.dap_editor.specs.Argument.{context, value_format, operand_style, filters, no_filters}
 use Rattle.dap_editor.specs.Argument.{lines, functions, data_breakpoints, instructions}
 
 abbrev pub spelling_of : EditorName → Text
@@ -78,30 +82,16 @@ abbrev pub ◌then_with◌ : {A B : Type 0} → Result A Text → (A → Result 
 Ok value then_with f = f value
 Err name then_with f = Err name
 
-abbrev pub byte : Data → Option ℕ
-byte = whole_between 0 255
-
-abbrev pub word : Data → Option ℕ
-word = whole_between 0 65535
-
-abbrev pub some_word : Data → Option (Option ℕ)
-some_word d = option_map Some (word d)
-
-abbrev pub any_number : Data → Option ℕ
-any_number = whole_between 0 4294967295
-
--- a number of bytes after a place, or before it
-abbrev pub offset : Data → Result SignedOffset Text
-offset = value_or (codes "offset") (shift 4294967295) (Forward 0)
-
-abbrev pub memory_reference : Data → Result ℕ Text
-memory_reference = required_value (codes "memoryReference") address
-
-abbrev pub initialize_asked : Data → Result SupportedEvents Text
+-- lines and columns count from 1 if nothing else is wanted
+abbrev pub initialize_asked : Data → Result EditorCommand Text
 initialize_asked d =
     value_or (codes "supportsInvalidatedEvent") as_bool false d then_with λ invalidated.
     value_or (codes "supportsMemoryEvent") as_bool false d then_with λ memory.
-    Ok (record { invalidated = invalidated; memory = memory })
+    value_or (codes "linesStartAt1") as_bool true d then_with λ lines_at_1.
+    value_or (codes "columnsStartAt1") as_bool true d then_with λ columns_at_1.
+    Ok (command.Initialize
+    (record { invalidated = invalidated; memory = memory })
+    (record { lines_start_at_1 = lines_at_1; columns_start_at_1 = columns_at_1 }))
 
 -- the bytes of a program begin at 0 if nothing else is wanted
 abbrev pub launch_asked : Data → Result Launch Text
@@ -153,11 +143,26 @@ abbrev pub source : Data → Result Text Text
 source = required_value (codes "source") (text_at (codes "path"))
 
 -- no list of breakpoints is an empty one
-abbrev pub set_breakpoints_asked : Data → Result EditorCommand Text
-set_breakpoints_asked d =
+abbrev pub set_breakpoints_asked : Numbering → Data → Result EditorCommand Text
+set_breakpoints_asked numbering d =
     source d then_with λ path.
-    value_or (codes "breakpoints") lines [] d then_with λ breakpoints.
+    value_or (codes "breakpoints") (lines numbering) [] d then_with λ breakpoints.
     Ok (command.SetBreakpoints path breakpoints)
+
+abbrev pub set_function_breakpoints_asked : Data → Result EditorCommand Text
+set_function_breakpoints_asked d =
+    required_value (codes "breakpoints") functions d then_with λ breakpoints.
+    Ok (command.SetFunctionBreakpoints breakpoints)
+
+abbrev pub set_data_breakpoints_asked : Data → Result EditorCommand Text
+set_data_breakpoints_asked d =
+    required_value (codes "breakpoints") data_breakpoints d then_with λ breakpoints.
+    Ok (command.SetDataBreakpoints breakpoints)
+
+abbrev pub set_instruction_breakpoints_asked : Data → Result EditorCommand Text
+set_instruction_breakpoints_asked d =
+    required_value (codes "breakpoints") instructions d then_with λ breakpoints.
+    Ok (command.SetInstructionBreakpoints breakpoints)
 
 -- an expression if no scope is named, and one byte if no number of them is
 abbrev pub data_breakpoint_info_asked : Data → Result EditorCommand Text
@@ -174,18 +179,23 @@ data_breakpoint_info_asked d =
     }))
 
 -- the last line is the first one if it is absent
-abbrev pub breakpoint_locations_asked : Data → Result EditorCommand Text
-breakpoint_locations_asked d =
+abbrev pub breakpoint_locations_asked : Numbering → Data → Result EditorCommand Text
+breakpoint_locations_asked numbering d =
     source d then_with λ path.
     required_value (codes "line") any_number d then_with λ first.
     value_or (codes "endLine") any_number first d then_with λ last.
-    Ok (command.BreakpointLocations path first last)
+    Ok (command.BreakpointLocations path (line_meant numbering first) (line_meant numbering last))
+
+-- in hexadecimal if nothing else is wanted
+abbrev pub format : Data → Result ValueFormat Text
+format = value_or (codes "format") value_format Hexadecimal
 
 abbrev pub evaluate_asked : Data → Result EditorCommand Text
 evaluate_asked d =
     required_value (codes "expression") as_str d then_with λ expression.
     value_or (codes "context") context Other d then_with λ where_shown.
-    Ok (command.Evaluate expression where_shown)
+    format d then_with λ its_format.
+    Ok (command.Evaluate expression where_shown its_format)
 
 abbrev pub read_memory_asked : Data → Result EditorCommand Text
 read_memory_asked d =
@@ -201,19 +211,21 @@ write_memory_asked d =
     required_value (codes "data") base64 d then_with λ content.
     Ok (command.WriteMemory to bytes content)
 
+-- operands are numbers if nothing else is wanted
 abbrev pub disassemble_asked : Data → Result EditorCommand Text
 disassemble_asked d =
     memory_reference d then_with λ from.
     offset d then_with λ bytes.
     value_or (codes "instructionOffset") (shift 65536) (Forward 0) d then_with λ instructions.
     required_value (codes "instructionCount") (whole_between 1 1024) d then_with λ count.
-    Ok (command.Disassemble from bytes instructions count)
+    value_or (codes "resolveSymbols") operand_style Numbers d then_with λ operands.
+    Ok (command.Disassemble from bytes instructions count operands)
 
-abbrev pub goto_targets_asked : Data → Result EditorCommand Text
-goto_targets_asked d =
+abbrev pub goto_targets_asked : Numbering → Data → Result EditorCommand Text
+goto_targets_asked numbering d =
     source d then_with λ path.
     required_value (codes "line") any_number d then_with λ line.
-    Ok (command.GotoTargets path line)
+    Ok (command.GotoTargets path (line_meant numbering line))
 
 abbrev pub scopes_asked : Data → Result VariablesCommand Text
 scopes_asked d =
@@ -232,82 +244,78 @@ variables_asked d =
     scope d then_with λ its_scope.
     value_or (codes "start") any_number 0 d then_with λ start.
     value_or (codes "count") any_number 0 d then_with λ count.
-    Ok (variables.Variables its_scope start count)
+    format d then_with λ its_format.
+    Ok (variables.Variables its_scope start count its_format)
 
 abbrev pub set_variable_asked : Data → Result VariablesCommand Text
 set_variable_asked d =
     scope d then_with λ its_scope.
     required_value (codes "name") as_str d then_with λ text.
     new_value d then_with λ value.
-    Ok (variables.SetVariable its_scope text value)
+    format d then_with λ its_format.
+    Ok (variables.SetVariable its_scope text value its_format)
 
 abbrev pub set_expression_asked : Data → Result VariablesCommand Text
 set_expression_asked d =
     required_value (codes "expression") as_str d then_with λ expression.
     new_value d then_with λ value.
-    Ok (variables.SetExpression expression value)
+    format d then_with λ its_format.
+    Ok (variables.SetExpression expression value its_format)
 
-abbrev pub completions_asked : Data → Result VariablesCommand Text
-completions_asked d =
+abbrev pub completions_asked : Numbering → Data → Result VariablesCommand Text
+completions_asked numbering d =
     required_value (codes "text") as_str d then_with λ text.
     required_value (codes "column") any_number d then_with λ column.
-    Ok (variables.Completions text column)
+    Ok (variables.Completions text (column_meant numbering column))
 
--- the command that a request makes with this name, or the name of its first bad argument
-abbrev pub command_asked : EditorName → Data → Result EditorCommand Text
-command_asked name.Initialize d =
-    initialize_asked d then_with λ supported.
-    Ok (command.Initialize supported)
-command_asked name.Launch d =
+-- the command that a request makes with this name, or the name of its first bad argument, where lines and
+-- columns count so
+abbrev pub command_asked : Numbering → EditorName → Data → Result EditorCommand Text
+command_asked numbering name.Initialize d = initialize_asked d
+command_asked numbering name.Launch d =
     launch_asked d then_with λ launch.
     Ok (command.Launch launch)
-command_asked name.Restart d =
+command_asked numbering name.Restart d =
     restart_asked d then_with λ launch.
     Ok (command.Restart launch)
-command_asked name.Terminate d = Ok command.Terminate
-command_asked name.SetBreakpoints d = set_breakpoints_asked d
-command_asked name.SetFunctionBreakpoints d =
-    required_value (codes "breakpoints") functions d then_with λ breakpoints.
-    Ok (command.SetFunctionBreakpoints breakpoints)
-command_asked name.SetExceptionBreakpoints d =
+command_asked numbering name.Terminate d = Ok command.Terminate
+command_asked numbering name.SetBreakpoints d = set_breakpoints_asked numbering d
+command_asked numbering name.SetFunctionBreakpoints d = set_function_breakpoints_asked d
+command_asked numbering name.SetExceptionBreakpoints d =
     value_or (codes "filters") filters no_filters d then_with λ wanted.
     Ok (command.SetExceptionBreakpoints wanted)
-command_asked name.DataBreakpointInfo d = data_breakpoint_info_asked d
-command_asked name.SetDataBreakpoints d =
-    required_value (codes "breakpoints") data_breakpoints d then_with λ breakpoints.
-    Ok (command.SetDataBreakpoints breakpoints)
-command_asked name.SetInstructionBreakpoints d =
-    required_value (codes "breakpoints") instructions d then_with λ breakpoints.
-    Ok (command.SetInstructionBreakpoints breakpoints)
-command_asked name.BreakpointLocations d = breakpoint_locations_asked d
-command_asked name.ExceptionInfo d = Ok command.ExceptionInfo
-command_asked name.Evaluate d = evaluate_asked d
-command_asked name.ReadMemory d = read_memory_asked d
-command_asked name.WriteMemory d = write_memory_asked d
-command_asked name.Disassemble d = disassemble_asked d
-command_asked name.LoadedSources d = Ok command.LoadedSources
-command_asked name.StepBack d =
+command_asked numbering name.DataBreakpointInfo d = data_breakpoint_info_asked d
+command_asked numbering name.SetDataBreakpoints d = set_data_breakpoints_asked d
+command_asked numbering name.SetInstructionBreakpoints d = set_instruction_breakpoints_asked d
+command_asked numbering name.BreakpointLocations d = breakpoint_locations_asked numbering d
+command_asked numbering name.ExceptionInfo d = Ok command.ExceptionInfo
+command_asked numbering name.Evaluate d = evaluate_asked d
+command_asked numbering name.ReadMemory d = read_memory_asked d
+command_asked numbering name.WriteMemory d = write_memory_asked d
+command_asked numbering name.Disassemble d = disassemble_asked d
+command_asked numbering name.LoadedSources d = Ok command.LoadedSources
+command_asked numbering name.StepBack d =
     value_or (codes "granularity") granularity Line d then_with λ by.
     Ok (command.StepBack by)
-command_asked name.ReverseContinue d = Ok command.ReverseContinue
-command_asked name.GotoTargets d = goto_targets_asked d
-command_asked name.Goto d =
+command_asked numbering name.ReverseContinue d = Ok command.ReverseContinue
+command_asked numbering name.GotoTargets d = goto_targets_asked numbering d
+command_asked numbering name.Goto d =
     required_value (codes "targetId") word d then_with λ target.
     Ok (command.Goto target)
-command_asked name.Scopes d =
+command_asked numbering name.Scopes d =
     scopes_asked d then_with λ its_command.
     Ok (command.Variables its_command)
-command_asked name.Variables d =
+command_asked numbering name.Variables d =
     variables_asked d then_with λ its_command.
     Ok (command.Variables its_command)
-command_asked name.SetVariable d =
+command_asked numbering name.SetVariable d =
     set_variable_asked d then_with λ its_command.
     Ok (command.Variables its_command)
-command_asked name.SetExpression d =
+command_asked numbering name.SetExpression d =
     set_expression_asked d then_with λ its_command.
     Ok (command.Variables its_command)
-command_asked name.Completions d =
-    completions_asked d then_with λ its_command.
+command_asked numbering name.Completions d =
+    completions_asked numbering d then_with λ its_command.
     Ok (command.Variables its_command)
 
 -- ---- the names

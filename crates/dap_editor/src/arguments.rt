@@ -1,235 +1,36 @@
-//! The arguments of an editor's request, one function for each type. Each names an argument that is bad.
-ghost use Rattle.std.specs.Prelude.{◌≡◌, ◌≤◌, IfOk, IfSome, [], false, Some, None, length, option_map};
-ghost use Rattle.std.specs.Prelude.{option_and_then, ok_or, codes};
-ghost use Rattle.serde_json.specs.Find.{get, as_str, as_bool, as_array};
+//! The arguments that only editors' commands have, one function for each type. Each names an argument that
+//! is bad.
+ghost use Rattle.std.specs.Prelude.{◌≡◌, ◌≤◌, IfOk, IfSome, [], length, option_map, option_and_then, codes};
+ghost use Rattle.serde_json.specs.Find.{get, as_array};
 ghost use Rattle.serde_json.specs.View.{view, items_view};
-ghost use Rattle.lab_shown.specs.declared.step.Granularity.TheVariants.{Line};
-ghost use Rattle.dap_talk.specs.Argument.{argument_at, text_at, whole_between, at_most_256};
-ghost use Rattle.dap_editor.specs.declared.arguments.ArgumentFault.TheVariants.{OutOfMemory};
-ghost use Rattle.dap_editor.specs.Answer.{Answers, result_map};
-ghost use Rattle.dap_editor.specs.Argument.{required_value, value_or, IsBackWithin};
-ghost use Rattle.dap_editor.specs.Argument.{shift_within, shift};
-ghost use Rattle.dap_editor.specs.Argument.{context, granularity, is_text, has_text, filters, no_filters};
+ghost use Rattle.dap_talk.specs.Argument.{at_most_256};
+ghost use Rattle.dap_messages.specs.declared.message.OperandStyle.TheVariants.{Numbers};
+ghost use Rattle.dap_messages.specs.declared.message.ValueFormat.TheVariants.{Hexadecimal};
+ghost use Rattle.dap_arguments.specs.Answer.{Answers, result_map};
+ghost use Rattle.dap_arguments.specs.Argument.{required_value, value_or, any_number};
+ghost use Rattle.dap_editor.specs.Argument.{context, is_text, has_text, filters, no_filters};
+ghost use Rattle.dap_editor.specs.Argument.{hex, value_format, operand_style};
 ghost use Rattle.dap_editor.specs.Argument.{is_unset, some_text, option_text, options_of, is_text_or_unset};
 ghost use Rattle.dap_editor.specs.Argument.{conditions_of, has_text_conditions, has_texts, line_of};
 ghost use Rattle.dap_editor.specs.Argument.{is_write, data_breakpoint_of};
 ghost use Rattle.dap_editor.specs.Argument.{offset_in, place_of, instruction_of};
 ghost use Rattle.dap_editor.specs.Argument.{function_of, all_of};
 ghost use Rattle.dap_editor.specs.Argument.{breakpoints, lines, functions, data_breakpoints, instructions};
-ghost use Rattle.dap_editor.specs.Argument.{bytes_of, base64};
-ghost use Rattle.dap_editor.specs.Table.{byte, word, some_word, any_number, offset, memory_reference};
 
 use crate::request::{
     DataBreakpoint, EvaluateContext, ExceptionFilters, FunctionBreakpoint, InstructionBreakpoint,
-    LineBreakpoint, SignedOffset,
+    LineBreakpoint,
 };
-use base_text::sequence::{Bytes, Sequence};
+use base_text::sequence::Sequence;
 use base_text::text::Text;
-use base64::DecodeAllocError;
-use base64::engine::general_purpose::STANDARD;
-use dap_messages::message::BreakpointOptions;
-use dap_talk::arguments::{self, address_of, argument_at, whole_between};
-use dap_talk::members;
-use lab_shown::step::Granularity;
+use dap_arguments::arguments::{optional, required_value, shift_of};
+use dap_arguments::fault::ArgumentFault;
+use dap_arguments::offset::SignedOffset;
+use dap_messages::message::{BreakpointOptions, Numbering, OperandStyle, ValueFormat};
+use dap_talk::arguments::{address_of, whole_between};
+use dap_talk::members::{self, member_at};
 use serde_json::Value;
 use std::alloc::{AllocError, Global};
-
-/// Why an argument can't be read.
-#[derive(Clone, Copy)]
-pub enum ArgumentFault {
-    OutOfMemory,
-    /// The argument with this name is missing, of the wrong type, or out of its bounds.
-    Argument(&'static str),
-}
-
-impl From<AllocError> for ArgumentFault {
-    ghost from_gives = { λ _ fault. fault ≡ OutOfMemory };
-
-    fn from(_e: AllocError) -> ArgumentFault {
-        ArgumentFault::OutOfMemory
-    }
-}
-
-// The value at a key, if there is one.
-fn optional<'a>(request: &'a Value, key: &'static str) -> Result<Option<&'a Value>, ArgumentFault>
-    ensures { Answers (ok_or (argument_at key.now (view request.now)) key.now)
-        (result_map (option_map (λ v. view v.now)) result) }
-{
-    argument_at(request, key).ok_or(ArgumentFault::Argument(key))
-}
-
-// The value at a key, which must be there.
-fn required_value<'a>(request: &'a Value, key: &'static str) -> Result<&'a Value, ArgumentFault>
-    ensures { Answers (required_value key.now Some (view request.now))
-        (result_map (λ v. view v.now) result) }
-{
-    optional(request, key)?.ok_or(ArgumentFault::Argument(key))
-}
-
-/// A required text.
-pub fn text_at<'a>(request: &'a Value, key: &'static str) -> Result<&'a str, ArgumentFault>
-    ensures { Answers (required_value key.now as_str (view request.now)) (result_map (λ t. t.now) result) }
-{
-    required_value(request, key)?
-        .as_str()
-        .ok_or(ArgumentFault::Argument(key))
-}
-
-/// A text, and an empty one if it is absent.
-pub fn text_or_empty<'a>(request: &'a Value, key: &'static str) -> Result<&'a str, ArgumentFault>
-    ensures { Answers (value_or key.now as_str [] (view request.now)) (result_map (λ t. t.now) result) }
-{
-    match optional(request, key)? {
-        None => Ok(""),
-        Some(value) => value.as_str().ok_or(ArgumentFault::Argument(key)),
-    }
-}
-
-/// The path of a required source.
-pub fn path_at<'a>(request: &'a Value, key: &'static str) -> Result<&'a str, ArgumentFault>
-    ensures { Answers (required_value key.now (text_at (codes "path")) (view request.now))
-        (result_map (λ t. t.now) result) }
-{
-    members::text_at(required_value(request, key)?, "path").ok_or(ArgumentFault::Argument(key))
-}
-
-/// `true` or `false`, and `false` if it is absent.
-pub fn truth_or_false(request: &Value, key: &'static str) -> Result<bool, ArgumentFault>
-    ensures { Answers (value_or key.now as_bool false (view request.now)) result }
-{
-    match optional(request, key)? {
-        None => Ok(false),
-        Some(value) => value.as_bool().ok_or(ArgumentFault::Argument(key)),
-    }
-}
-
-fn byte_of(value: &Value) -> Option<u8>
-    ensures { result ≡ byte (view value.now) }
-{
-    u8::try_from(whole_between(value, 0, 255)?).ok()
-}
-
-fn word_of(value: &Value, low: u16, high: u16) -> Option<u16>
-    ensures value { result ≡ whole_between low high (view value.now) }
-    ensures from { IfSome result (λ n. low ≤ n) }
-    ensures to { IfSome result (λ n. n ≤ high) }
-{
-    let n = whole_between(value, u32::from(low), u32::from(high))?;
-    u16::try_from(n).ok()
-}
-
-/// A whole number of at most 255, and 0 if it is absent.
-pub fn byte_or_0(request: &Value, key: &'static str) -> Result<u8, ArgumentFault>
-    ensures { Answers (value_or key.now byte 0 (view request.now)) result }
-{
-    match optional(request, key)? {
-        None => Ok(0),
-        Some(value) => byte_of(value).ok_or(ArgumentFault::Argument(key)),
-    }
-}
-
-/// A required whole number of 32 bits.
-pub fn number_at(request: &Value, key: &'static str) -> Result<u32, ArgumentFault>
-    ensures { Answers (required_value key.now any_number (view request.now)) result }
-{
-    whole_between(required_value(request, key)?, 0, u32::MAX).ok_or(ArgumentFault::Argument(key))
-}
-
-/// A whole number of 32 bits, and this one if it is absent.
-pub fn number_or(request: &Value, key: &'static str, absent: u32) -> Result<u32, ArgumentFault>
-    ensures { Answers (value_or key.now any_number absent (view request.now)) result }
-{
-    match optional(request, key)? {
-        None => Ok(absent),
-        Some(value) => whole_between(value, 0, u32::MAX).ok_or(ArgumentFault::Argument(key)),
-    }
-}
-
-/// A required whole number of 16 bits.
-pub fn word_at(request: &Value, key: &'static str) -> Result<u16, ArgumentFault>
-    ensures { Answers (required_value key.now word (view request.now)) result }
-{
-    word_of(required_value(request, key)?, 0, 65535).ok_or(ArgumentFault::Argument(key))
-}
-
-fn some_word(value: &Value) -> Option<Option<u16>>
-    ensures { result ≡ some_word (view value.now) }
-{
-    Some(Some(word_of(value, 0, 65535)?))
-}
-
-/// A whole number of 16 bits, if it isn't absent.
-pub fn word_or_none(request: &Value, key: &'static str) -> Result<Option<u16>, ArgumentFault>
-    ensures { Answers (value_or key.now some_word None (view request.now)) result }
-{
-    match optional(request, key)? {
-        None => Ok(None),
-        Some(value) => some_word(value).ok_or(ArgumentFault::Argument(key)),
-    }
-}
-
-/// A required whole number from 1 to 1,024.
-pub fn count_at(request: &Value, key: &'static str) -> Result<u16, ArgumentFault>
-    ensures value { Answers (required_value key.now (whole_between 1 1024) (view request.now)) result }
-    ensures from { IfOk result (λ n. 1 ≤ n) }
-    ensures to { IfOk result (λ n. n ≤ 1024) }
-{
-    word_of(required_value(request, key)?, 1, 1024).ok_or(ArgumentFault::Argument(key))
-}
-
-/// The required address at `memoryReference`.
-pub fn memory_reference(request: &Value) -> Result<u16, ArgumentFault>
-    ensures { Answers (memory_reference (view request.now)) result }
-{
-    let key = "memoryReference";
-    address_of(text_at(request, key)?).ok_or(ArgumentFault::Argument(key))
-}
-
-// How far an `i64` is from 0, if that is within the bounds.
-fn shift_by(n: i64, limit: u32) -> Option<SignedOffset>
-    ensures value { result ≡ shift_within limit n }
-    ensures within { IfSome result (λ shift. IsBackWithin limit shift) }
-{
-    if n < 0 {
-        let back = u32::try_from(n.unsigned_abs()).ok()?;
-        if back > limit {
-            return None;
-        }
-        return Some(SignedOffset::Back(back));
-    }
-    let forward = u32::try_from(n).ok()?;
-    Some(SignedOffset::Forward(forward))
-}
-
-fn shift_of(value: &Value, limit: u32) -> Option<SignedOffset>
-    ensures value { result ≡ shift limit (view value.now) }
-    ensures within { IfSome result (λ shift. IsBackWithin limit shift) }
-{
-    shift_by(value.as_i64()?, limit)
-}
-
-/// A whole number that may be negative, down to this limit; 0 if it is absent.
-pub fn shift_or_0(
-    request: &Value,
-    key: &'static str,
-    limit: u32,
-) -> Result<SignedOffset, ArgumentFault>
-    ensures value { Answers
-        (value_or key.now (shift limit) (SignedOffset.Forward 0) (view request.now)) result }
-    ensures within { IfOk result (λ shift. IsBackWithin limit shift) }
-{
-    match optional(request, key)? {
-        None => Ok(SignedOffset::Forward(0)),
-        Some(value) => shift_of(value, limit).ok_or(ArgumentFault::Argument(key)),
-    }
-}
-
-/// A number of bytes after a place or before it; 0 if it is absent.
-pub fn offset(request: &Value) -> Result<SignedOffset, ArgumentFault>
-    ensures { Answers (offset (view request.now)) result }
-{
-    shift_or_0(request, "offset", u32::MAX)
-}
 
 fn context_of(value: &Value) -> Option<EvaluateContext>
     ensures { result ≡ context (view value.now) }
@@ -254,12 +55,53 @@ pub fn context_or_other(
     }
 }
 
-/// A granularity, as `next` has one.
-#[tactic(auto, using(crate::proofs::GranularityLemmas::granularity_found))]
-pub fn granularity_or_line(request: &Value, key: &'static str) -> Result<Granularity, ArgumentFault>
-    ensures { Answers (value_or key.now granularity Line (view request.now)) result }
+fn hex_of(value: &Value) -> Option<ValueFormat>
+    ensures { result ≡ hex (view value.now) }
 {
-    arguments::granularity_or_line(request, key).ok_or(ArgumentFault::Argument(key))
+    if value.as_bool()? {
+        Some(ValueFormat::Hexadecimal)
+    } else {
+        Some(ValueFormat::Decimal)
+    }
+}
+
+fn format_of(value: &Value) -> Option<ValueFormat>
+    ensures { result ≡ value_format (view value.now) }
+{
+    match member_at(value, "hex")? {
+        None => Some(ValueFormat::Hexadecimal),
+        Some(hex) => hex_of(hex),
+    }
+}
+
+/// How values are written: in hexadecimal unless decimal is wanted.
+pub fn format_or_hexadecimal(request: &Value) -> Result<ValueFormat, ArgumentFault>
+    ensures { Answers (value_or (codes "format") value_format Hexadecimal (view request.now)) result }
+{
+    match optional(request, "format")? {
+        None => Ok(ValueFormat::Hexadecimal),
+        Some(value) => format_of(value).ok_or(ArgumentFault::Argument("format")),
+    }
+}
+
+fn operands_of(value: &Value) -> Option<OperandStyle>
+    ensures { result ≡ operand_style (view value.now) }
+{
+    if value.as_bool()? {
+        Some(OperandStyle::Labels)
+    } else {
+        Some(OperandStyle::Numbers)
+    }
+}
+
+/// How operands are written: as numbers unless symbols are to be resolved.
+pub fn operands_or_numbers(request: &Value) -> Result<OperandStyle, ArgumentFault>
+    ensures { Answers (value_or (codes "resolveSymbols") operand_style Numbers (view request.now)) result }
+{
+    match optional(request, "resolveSymbols")? {
+        None => Ok(OperandStyle::Numbers),
+        Some(value) => operands_of(value).ok_or(ArgumentFault::Argument("resolveSymbols")),
+    }
 }
 
 fn is_text(value: &Value, text: &str) -> bool
@@ -375,21 +217,24 @@ fn has_texts(breakpoint: &Value) -> bool
 }
 
 fn line_at(breakpoint: &Value) -> Option<u32>
-    ensures { result ≡ option_and_then (whole_between 0 4294967295) (get (codes "line")
-        (view breakpoint.now)) }
+    ensures { result ≡ option_and_then any_number (get (codes "line") (view breakpoint.now)) }
 {
     whole_between(breakpoint.get("line")?, 0, u32::MAX)
 }
 
-fn line_of(alloc: Global, breakpoint: &Value) -> Result<Option<LineBreakpoint>, AllocError>
-    ensures { IfOk result (λ found. found ≡ line_of (view breakpoint.now)) }
+fn line_of(
+    alloc: Global,
+    numbering: Numbering,
+    breakpoint: &Value,
+) -> Result<Option<LineBreakpoint>, AllocError>
+    ensures { IfOk result (λ found. found ≡ line_of numbering (view breakpoint.now)) }
 {
     let Some(line) = line_at(breakpoint) else {
         return Ok(None);
     };
     let options = options_of(alloc, breakpoint)?;
     Ok(Some(LineBreakpoint {
-        line,
+        line: numbering.line_meant(line),
         options,
         has_texts: has_texts(breakpoint),
     }))
@@ -397,14 +242,15 @@ fn line_of(alloc: Global, breakpoint: &Value) -> Result<Option<LineBreakpoint>, 
 
 fn lines_of(
     alloc: Global,
+    numbering: Numbering,
     breakpoints: &[Value],
 ) -> Result<Option<Sequence<LineBreakpoint>>, AllocError>
-    ensures found { IfOk result (λ found. found ≡ all_of line_of (items_view breakpoints.now)) }
+    ensures found { IfOk result (λ found. found ≡ all_of (line_of numbering) (items_view breakpoints.now)) }
     ensures count { IfOk result (λ found. IfSome found (λ lines. length lines ≡ length breakpoints.now)) }
 {
     let mut lines = Sequence::new(alloc);
     for breakpoint in breakpoints {
-        let Some(line) = line_of(alloc, breakpoint)? else {
+        let Some(line) = line_of(alloc, numbering, breakpoint)? else {
             return Ok(None);
         };
         lines.push(line)?;
@@ -603,50 +449,32 @@ pub fn instructions_at(
     instructions_of(alloc, breakpoints)?.ok_or(ArgumentFault::Argument(key))
 }
 
-fn lines_in(alloc: Global, value: &Value) -> Result<Option<Sequence<LineBreakpoint>>, AllocError>
-    ensures found { IfOk result (λ found. found ≡ lines (view value.now)) }
+fn lines_in(
+    alloc: Global,
+    numbering: Numbering,
+    value: &Value,
+) -> Result<Option<Sequence<LineBreakpoint>>, AllocError>
+    ensures found { IfOk result (λ found. found ≡ lines numbering (view value.now)) }
     ensures few { IfOk result (λ found. IfSome found (λ lines. length lines ≤ 256)) }
 {
     match few_breakpoints(value) {
         None => Ok(None),
-        Some(breakpoints) => lines_of(alloc, breakpoints),
+        Some(breakpoints) => lines_of(alloc, numbering, breakpoints),
     }
 }
 
 /// The breakpoints on lines, and none if they are absent.
 pub fn lines_or_none(
     alloc: Global,
+    numbering: Numbering,
     request: &Value,
     key: &'static str,
 ) -> Result<Sequence<LineBreakpoint>, ArgumentFault>
-    ensures answer { Answers (value_or key.now lines [] (view request.now)) result }
+    ensures answer { Answers (value_or key.now (lines numbering) [] (view request.now)) result }
     ensures few { IfOk result (λ lines. length lines ≤ 256) }
 {
     match optional(request, key)? {
         None => Ok(Sequence::new(alloc)),
-        Some(value) => lines_in(alloc, value)?.ok_or(ArgumentFault::Argument(key)),
-    }
-}
-
-#[tactic(auto, unfolding(crate::specs::Argument::bytes_of, base64::specs::GeneralPurpose::decoded_of))]
-fn bytes_of(alloc: Global, text: &str) -> Result<Option<Bytes>, AllocError>
-    ensures { IfOk result (λ found. found ≡ bytes_of text.now) }
-{
-    match STANDARD.decode(alloc, text.as_bytes()) {
-        Ok(bytes) => Ok(Some(Bytes::from(bytes))),
-        Err(DecodeAllocError::OutOfMemory) => Err(AllocError),
-        Err(DecodeAllocError::DecodeError(_)) => Ok(None),
-    }
-}
-
-/// At most 65,536 required bytes, in base64.
-pub fn bytes_at(alloc: Global, request: &Value, key: &'static str) -> Result<Bytes, ArgumentFault>
-    ensures answer { Answers (required_value key.now base64 (view request.now)) result }
-    ensures short { IfOk result (λ bytes. length bytes ≤ 65536) }
-{
-    let text = text_at(request, key)?;
-    match bytes_of(alloc, text)? {
-        Some(bytes) if bytes.len() <= 65536 => Ok(bytes),
-        _ => Err(ArgumentFault::Argument(key)),
+        Some(value) => lines_in(alloc, numbering, value)?.ok_or(ArgumentFault::Argument(key)),
     }
 }

@@ -4,7 +4,6 @@
 #![tactic(auto)]
 
 mod arguments;
-pub mod laws;
 mod name;
 pub mod reading;
 pub mod request;

@@ -2,11 +2,13 @@
 ghost use Rattle.std.specs.Prelude.{◌≡◌, IfOk, OnErr, IsSome};
 ghost use Rattle.serde_json.specs.View.{view};
 ghost use Rattle.dap_talk.specs.Reading.{envelope_of, envelope_with, reading};
-ghost use Rattle.dap_editor.specs.Answer.{Answers};
+ghost use Rattle.dap_arguments.specs.Answer.{Answers};
 ghost use Rattle.dap_editor.specs.Table.{command_named, command_asked, launch_asked, evaluate_asked};
 ghost use Rattle.dap_editor.specs.Table.{initialize_asked, read_memory_asked, goto_targets_asked};
 ghost use Rattle.dap_editor.specs.Table.{write_memory_asked, disassemble_asked};
-ghost use Rattle.dap_editor.specs.Table.{set_breakpoints_asked, breakpoint_locations_asked};
+ghost use Rattle.dap_editor.specs.Table.{set_breakpoints_asked, set_function_breakpoints_asked};
+ghost use Rattle.dap_editor.specs.Table.{set_data_breakpoints_asked, set_instruction_breakpoints_asked};
+ghost use Rattle.dap_editor.specs.Table.{breakpoint_locations_asked};
 ghost use Rattle.dap_editor.specs.Table.{data_breakpoint_info_asked, scopes_asked, variables_asked};
 ghost use Rattle.dap_editor.specs.Table.{set_variable_asked, set_expression_asked, completions_asked};
 ghost use Rattle.dap_editor.specs.Table.{has_arguments, restart_asked};
@@ -14,10 +16,8 @@ ghost use Rattle.dap_editor.specs.Reading.{has_null_arguments, bare_request, ask
 ghost use Rattle.dap_editor.specs.Reading.{asked_by, unreadable, editor_request, IsCommandBounded, IsBounded};
 
 use crate::arguments::{
-    ArgumentFault, byte_or_0, bytes_at, context_or_other, count_at, data_breakpoints_at,
-    filters_or_none, functions_at, granularity_or_line, instructions_at, lines_or_none,
-    memory_reference, number_at, number_or, offset, path_at, shift_or_0, text_at, text_or_empty,
-    truth_or_false, word_at, word_or_none,
+    context_or_other, data_breakpoints_at, filters_or_none, format_or_hexadecimal, functions_at,
+    instructions_at, lines_or_none, operands_or_numbers,
 };
 use crate::name::EditorName;
 use crate::request::{
@@ -26,19 +26,34 @@ use crate::request::{
 };
 use base_text::text::Text;
 use dap_answers::object::Object;
+use dap_arguments::arguments::{
+    byte_or_0, bytes_at, count_at, granularity_or_line, memory_reference, number_at, number_or,
+    offset, path_at, shift_or_0, text_at, text_or_empty, truth_or, word_at, word_or_none,
+};
+use dap_arguments::fault::ArgumentFault;
+use dap_messages::message::Numbering;
 use dap_talk::fault::DapFault;
 use dap_talk::reading::{envelope_of, read_request};
 use serde_json::Value;
 use std::alloc::{AllocError, Global};
 
-fn initialize(request: &Value) -> Result<SupportedEvents, ArgumentFault>
-    ensures { Answers (initialize_asked (view request.now)) result }
+fn initialize(request: &Value) -> Result<EditorCommand, ArgumentFault>
+    ensures answer { Answers (initialize_asked (view request.now)) result }
+    ensures bounded { IfOk result (λ c. IsCommandBounded c) }
 {
-    let invalidated = truth_or_false(request, "supportsInvalidatedEvent")?;
-    let memory = truth_or_false(request, "supportsMemoryEvent")?;
-    Ok(SupportedEvents {
-        invalidated,
-        memory,
+    let invalidated = truth_or(request, "supportsInvalidatedEvent", false)?;
+    let memory = truth_or(request, "supportsMemoryEvent", false)?;
+    let lines_start_at_1 = truth_or(request, "linesStartAt1", true)?;
+    let columns_start_at_1 = truth_or(request, "columnsStartAt1", true)?;
+    Ok(EditorCommand::Initialize {
+        supported: SupportedEvents {
+            invalidated,
+            memory,
+        },
+        numbering: Numbering {
+            lines_start_at_1,
+            columns_start_at_1,
+        },
     })
 }
 
@@ -46,13 +61,13 @@ fn launch(alloc: Global, request: &Value) -> Result<Launch, ArgumentFault>
     ensures { Answers (launch_asked (view request.now)) result }
 {
     let program = text_at(request, "program")?;
-    let stops_on_entry = truth_or_false(request, "stopOnEntry")?;
-    let stops_at_end = truth_or_false(request, "stopAtEnd")?;
-    let only_runs = truth_or_false(request, "noDebug")?;
-    let has_aliases = truth_or_false(request, "aliases")?;
+    let stops_on_entry = truth_or(request, "stopOnEntry", false)?;
+    let stops_at_end = truth_or(request, "stopAtEnd", false)?;
+    let only_runs = truth_or(request, "noDebug", false)?;
+    let has_aliases = truth_or(request, "aliases", false)?;
     let switches = byte_or_0(request, "switches")?;
     let input = text_or_empty(request, "input")?;
-    let has_watch_commands = truth_or_false(request, "watchCommands")?;
+    let has_watch_commands = truth_or(request, "watchCommands", false)?;
     let origin = word_or_none(request, "origin")?;
     let start = word_or_none(request, "start")?;
     let canonical = Text::copy_of(alloc, program)?;
@@ -91,18 +106,22 @@ fn restart(alloc: Global, request: &Value) -> Result<Option<Launch>, ArgumentFau
     }
 }
 
-fn set_breakpoints(alloc: Global, request: &Value) -> Result<EditorCommand, ArgumentFault>
-    ensures answer { Answers (set_breakpoints_asked (view request.now)) result }
+fn set_breakpoints(
+    alloc: Global,
+    numbering: Numbering,
+    request: &Value,
+) -> Result<EditorCommand, ArgumentFault>
+    ensures answer { Answers (set_breakpoints_asked numbering (view request.now)) result }
     ensures bounded { IfOk result (λ c. IsCommandBounded c) }
 {
     let path = path_at(request, "source")?;
-    let lines = lines_or_none(alloc, request, "breakpoints")?;
+    let lines = lines_or_none(alloc, numbering, request, "breakpoints")?;
     let path = Text::copy_of(alloc, path)?;
     Ok(EditorCommand::SetBreakpoints { path, lines })
 }
 
 fn set_function_breakpoints(alloc: Global, request: &Value) -> Result<EditorCommand, ArgumentFault>
-    ensures answer { Answers (command_asked EditorName.SetFunctionBreakpoints (view request.now)) result }
+    ensures answer { Answers (set_function_breakpoints_asked (view request.now)) result }
     ensures bounded { IfOk result (λ c. IsCommandBounded c) }
 {
     let functions = functions_at(alloc, request, "breakpoints")?;
@@ -116,7 +135,7 @@ fn data_breakpoint_info(alloc: Global, request: &Value) -> Result<EditorCommand,
     let scope = number_or(request, "variablesReference", 0)?;
     let name = text_at(request, "name")?;
     let count = number_or(request, "bytes", 1)?;
-    let is_address = truth_or_false(request, "asAddress")?;
+    let is_address = truth_or(request, "asAddress", false)?;
     let name = Text::copy_of(alloc, name)?;
     Ok(EditorCommand::DataBreakpointInfo(DataQuery {
         scope,
@@ -127,7 +146,7 @@ fn data_breakpoint_info(alloc: Global, request: &Value) -> Result<EditorCommand,
 }
 
 fn set_data_breakpoints(alloc: Global, request: &Value) -> Result<EditorCommand, ArgumentFault>
-    ensures answer { Answers (command_asked EditorName.SetDataBreakpoints (view request.now)) result }
+    ensures answer { Answers (set_data_breakpoints_asked (view request.now)) result }
     ensures bounded { IfOk result (λ c. IsCommandBounded c) }
 {
     let breakpoints = data_breakpoints_at(alloc, request, "breakpoints")?;
@@ -138,32 +157,47 @@ fn set_instruction_breakpoints(
     alloc: Global,
     request: &Value,
 ) -> Result<EditorCommand, ArgumentFault>
-    ensures answer { Answers (command_asked EditorName.SetInstructionBreakpoints (view request.now)) result }
+    ensures answer { Answers (set_instruction_breakpoints_asked (view request.now)) result }
     ensures bounded { IfOk result (λ c. IsCommandBounded c) }
 {
     let breakpoints = instructions_at(alloc, request, "breakpoints")?;
     Ok(EditorCommand::SetInstructionBreakpoints(breakpoints))
 }
 
-fn breakpoint_locations(alloc: Global, request: &Value) -> Result<EditorCommand, ArgumentFault>
-    ensures answer { Answers (breakpoint_locations_asked (view request.now)) result }
+fn breakpoint_locations(
+    alloc: Global,
+    numbering: Numbering,
+    request: &Value,
+) -> Result<EditorCommand, ArgumentFault>
+    ensures answer { Answers (breakpoint_locations_asked numbering (view request.now)) result }
     ensures bounded { IfOk result (λ c. IsCommandBounded c) }
 {
     let path = path_at(request, "source")?;
     let first = number_at(request, "line")?;
     let last = number_or(request, "endLine", first)?;
     let path = Text::copy_of(alloc, path)?;
-    Ok(EditorCommand::BreakpointLocations { path, first, last })
+    Ok(EditorCommand::BreakpointLocations {
+        path,
+        first: numbering.line_meant(first),
+        last: numbering.line_meant(last),
+    })
 }
 
-fn goto_targets(alloc: Global, request: &Value) -> Result<EditorCommand, ArgumentFault>
-    ensures answer { Answers (goto_targets_asked (view request.now)) result }
+fn goto_targets(
+    alloc: Global,
+    numbering: Numbering,
+    request: &Value,
+) -> Result<EditorCommand, ArgumentFault>
+    ensures answer { Answers (goto_targets_asked numbering (view request.now)) result }
     ensures bounded { IfOk result (λ c. IsCommandBounded c) }
 {
     let path = path_at(request, "source")?;
     let line = number_at(request, "line")?;
     let path = Text::copy_of(alloc, path)?;
-    Ok(EditorCommand::GotoTargets { path, line })
+    Ok(EditorCommand::GotoTargets {
+        path,
+        line: numbering.line_meant(line),
+    })
 }
 
 fn evaluate(alloc: Global, request: &Value) -> Result<EditorCommand, ArgumentFault>
@@ -172,10 +206,12 @@ fn evaluate(alloc: Global, request: &Value) -> Result<EditorCommand, ArgumentFau
 {
     let expression = text_at(request, "expression")?;
     let context = context_or_other(request, "context")?;
+    let format = format_or_hexadecimal(request)?;
     let expression = Text::copy_of(alloc, expression)?;
     Ok(EditorCommand::Evaluate {
         expression,
         context,
+        format,
     })
 }
 
@@ -215,11 +251,13 @@ fn disassemble(request: &Value) -> Result<EditorCommand, ArgumentFault>
     let offset = offset(request)?;
     let instruction_offset = shift_or_0(request, "instructionOffset", 65536)?;
     let instruction_count = count_at(request, "instructionCount")?;
+    let operands = operands_or_numbers(request)?;
     Ok(EditorCommand::Disassemble {
         address,
         offset,
         instruction_offset,
         instruction_count,
+        operands,
     })
 }
 
@@ -236,10 +274,12 @@ fn variables(request: &Value) -> Result<VariablesCommand, ArgumentFault>
     let reference = number_at(request, "variablesReference")?;
     let start = number_or(request, "start", 0)?;
     let count = number_or(request, "count", 0)?;
+    let format = format_or_hexadecimal(request)?;
     Ok(VariablesCommand::Variables {
         reference,
         start,
         count,
+        format,
     })
 }
 
@@ -249,12 +289,14 @@ fn set_variable(alloc: Global, request: &Value) -> Result<VariablesCommand, Argu
     let reference = number_at(request, "variablesReference")?;
     let name = text_at(request, "name")?;
     let value = text_at(request, "value")?;
+    let format = format_or_hexadecimal(request)?;
     let name = Text::copy_of(alloc, name)?;
     let value = Text::copy_of(alloc, value)?;
     Ok(VariablesCommand::SetVariable {
         reference,
         name,
         value,
+        format,
     })
 }
 
@@ -263,34 +305,47 @@ fn set_expression(alloc: Global, request: &Value) -> Result<VariablesCommand, Ar
 {
     let expression = text_at(request, "expression")?;
     let value = text_at(request, "value")?;
+    let format = format_or_hexadecimal(request)?;
     let expression = Text::copy_of(alloc, expression)?;
     let value = Text::copy_of(alloc, value)?;
-    Ok(VariablesCommand::SetExpression { expression, value })
+    Ok(VariablesCommand::SetExpression {
+        expression,
+        value,
+        format,
+    })
 }
 
-fn completions(alloc: Global, request: &Value) -> Result<VariablesCommand, ArgumentFault>
-    ensures { Answers (completions_asked (view request.now)) result }
+fn completions(
+    alloc: Global,
+    numbering: Numbering,
+    request: &Value,
+) -> Result<VariablesCommand, ArgumentFault>
+    ensures { Answers (completions_asked numbering (view request.now)) result }
 {
     let text = text_at(request, "text")?;
     let column = number_at(request, "column")?;
     let text = Text::copy_of(alloc, text)?;
-    Ok(VariablesCommand::Completions { text, column })
+    Ok(VariablesCommand::Completions {
+        text,
+        column: numbering.column_meant(column),
+    })
 }
 
 fn read_command(
     alloc: Global,
+    numbering: Numbering,
     name: EditorName,
     request: &Value,
 ) -> Result<EditorCommand, ArgumentFault>
-    ensures answer { Answers (command_asked name (view request.now)) result }
+    ensures answer { Answers (command_asked numbering name (view request.now)) result }
     ensures bounded { IfOk result (λ c. IsCommandBounded c) }
 {
     match name {
-        EditorName::Initialize => Ok(EditorCommand::Initialize(initialize(request)?)),
+        EditorName::Initialize => initialize(request),
         EditorName::Launch => Ok(EditorCommand::Launch(launch(alloc, request)?)),
         EditorName::Restart => Ok(EditorCommand::Restart(restart(alloc, request)?)),
         EditorName::Terminate => Ok(EditorCommand::Terminate),
-        EditorName::SetBreakpoints => set_breakpoints(alloc, request),
+        EditorName::SetBreakpoints => set_breakpoints(alloc, numbering, request),
         EditorName::SetFunctionBreakpoints => set_function_breakpoints(alloc, request),
         EditorName::SetExceptionBreakpoints => {
             Ok(EditorCommand::SetExceptionBreakpoints(filters_or_none(request)?))
@@ -298,7 +353,7 @@ fn read_command(
         EditorName::DataBreakpointInfo => data_breakpoint_info(alloc, request),
         EditorName::SetDataBreakpoints => set_data_breakpoints(alloc, request),
         EditorName::SetInstructionBreakpoints => set_instruction_breakpoints(alloc, request),
-        EditorName::BreakpointLocations => breakpoint_locations(alloc, request),
+        EditorName::BreakpointLocations => breakpoint_locations(alloc, numbering, request),
         EditorName::ExceptionInfo => Ok(EditorCommand::ExceptionInfo),
         EditorName::Evaluate => evaluate(alloc, request),
         EditorName::ReadMemory => read_memory(request),
@@ -309,7 +364,7 @@ fn read_command(
             Ok(EditorCommand::StepBack(granularity_or_line(request, "granularity")?))
         }
         EditorName::ReverseContinue => Ok(EditorCommand::ReverseContinue),
-        EditorName::GotoTargets => goto_targets(alloc, request),
+        EditorName::GotoTargets => goto_targets(alloc, numbering, request),
         EditorName::Goto => Ok(EditorCommand::Goto {
             target: word_at(request, "targetId")?,
         }),
@@ -317,19 +372,22 @@ fn read_command(
         EditorName::Variables => Ok(EditorCommand::Variables(variables(request)?)),
         EditorName::SetVariable => Ok(EditorCommand::Variables(set_variable(alloc, request)?)),
         EditorName::SetExpression => Ok(EditorCommand::Variables(set_expression(alloc, request)?)),
-        EditorName::Completions => Ok(EditorCommand::Variables(completions(alloc, request)?)),
+        EditorName::Completions => {
+            Ok(EditorCommand::Variables(completions(alloc, numbering, request)?))
+        }
     }
 }
 
 fn read_for_editor(
     alloc: Global,
+    numbering: Numbering,
     name: EditorName,
     request: &Value,
 ) -> Result<RequestContent, AllocError>
-    ensures read { IfOk result (λ a. a ≡ asked_of_editor (command_asked name (view request.now))) }
+    ensures read { IfOk result (λ a. a ≡ asked_of_editor (command_asked numbering name (view request.now))) }
     ensures bounded { IfOk result (λ a. IsBounded a) }
 {
-    match read_command(alloc, name, request) {
+    match read_command(alloc, numbering, name, request) {
         Ok(command) => Ok(RequestContent::Editor(command)),
         Err(ArgumentFault::OutOfMemory) => Err(AllocError),
         Err(ArgumentFault::Argument(name)) => {
@@ -352,12 +410,18 @@ fn read_for_board(alloc: Global, request: &Value) -> Result<RequestContent, Allo
     }
 }
 
-fn read_asked(alloc: Global, command: &str, request: &Value) -> Result<RequestContent, AllocError>
-    ensures read { IfOk result (λ a. a ≡ asked_by (command_named command.now) (view request.now)) }
+fn read_asked(
+    alloc: Global,
+    numbering: Numbering,
+    command: &str,
+    request: &Value,
+) -> Result<RequestContent, AllocError>
+    ensures read { IfOk result
+        (λ a. a ≡ asked_by numbering (command_named command.now) (view request.now)) }
     ensures bounded { IfOk result (λ a. IsBounded a) }
 {
     match EditorName::from_name(command) {
-        Some(name) => read_for_editor(alloc, name, request),
+        Some(name) => read_for_editor(alloc, numbering, name, request),
         None => read_for_board(alloc, request),
     }
 }
@@ -392,10 +456,15 @@ impl EditorRequest {
 }
 
 /// Reads a request (Debug Adapter Protocol, "Base Protocol") from any JSON value. Its number and command are
-/// kept even if it can't be carried out. Arguments that are `null` count as absent.
+/// kept even if it can't be carried out. Arguments that are `null` count as absent. Its lines and columns are
+/// read as the editor counts them, and count from 1 in the result.
 #[tactic(auto, unfolding(crate::specs::Reading::editor_request))]
-pub fn read_editor_request(alloc: Global, request: &Value) -> Result<EditorRequest, AllocError>
-    ensures read { IfOk result (λ r. r ≡ editor_request (view request.now)) }
+pub fn read_editor_request(
+    alloc: Global,
+    numbering: Numbering,
+    request: &Value,
+) -> Result<EditorRequest, AllocError>
+    ensures read { IfOk result (λ r. r ≡ editor_request numbering (view request.now)) }
     ensures bounded { IfOk result (λ r. IsBounded r.asked) }
     ensures refused { OnErr result (IsSome (envelope_of (view request.now))) }
 {
@@ -405,9 +474,9 @@ pub fn read_editor_request(alloc: Global, request: &Value) -> Result<EditorReque
     let command = Text::copy_of(alloc, text)?;
     let asked = if has_null_arguments(request) {
         let bare = bare_request(alloc, seq, text)?;
-        read_asked(alloc, text, &bare)?
+        read_asked(alloc, numbering, text, &bare)?
     } else {
-        read_asked(alloc, text, request)?
+        read_asked(alloc, numbering, text, request)?
     };
     Ok(EditorRequest {
         seq,

@@ -1,31 +1,12 @@
 //! Requests of an editor.
 ghost use Rattle.std.specs.Prelude.{◌≡◌};
-ghost use Rattle.dap_editor.specs.Argument.{address_at};
 
 use base_text::sequence::{Bytes, Sequence};
 use base_text::text::Text;
-use dap_messages::message::BreakpointOptions;
+use dap_arguments::offset::SignedOffset;
+use dap_messages::message::{BreakpointOptions, Numbering, OperandStyle, ValueFormat};
 use dap_talk::command::DapCommand;
 use lab_shown::step::Granularity;
-
-/// A signed offset, in bytes or in instructions.
-#[derive(Clone, Copy)]
-pub enum SignedOffset {
-    Forward(u32),
-    Back(u32),
-}
-
-impl SignedOffset {
-    /// The address at this distance from another, if there is one.
-    pub fn after(self, address: u16) -> Option<u16>
-        ensures { result ≡ address_at address self }
-    {
-        match self {
-            SignedOffset::Forward(n) => address.checked_add(u16::try_from(n).ok()?),
-            SignedOffset::Back(n) => address.checked_sub(u16::try_from(n).ok()?),
-        }
-    }
-}
 
 /// Where the editor shows the value of an expression (Debug Adapter Protocol, `evaluate`).
 #[derive(Clone, Copy)]
@@ -147,15 +128,18 @@ pub enum VariablesCommand {
         reference: u32,
         start: u32,
         count: u32,
+        format: ValueFormat,
     },
     SetVariable {
         reference: u32,
         name: Text,
         value: Text,
+        format: ValueFormat,
     },
     SetExpression {
         expression: Text,
         value: Text,
+        format: ValueFormat,
     },
     /// Of the word before a column of a text, from 1.
     Completions {
@@ -167,7 +151,11 @@ pub enum VariablesCommand {
 /// A command that only editors have, or that has more arguments for them than for the kernel.
 #[derive(Drop)]
 pub enum EditorCommand {
-    Initialize(SupportedEvents),
+    /// With how the editor counts lines and columns from the response on.
+    Initialize {
+        supported: SupportedEvents,
+        numbering: Numbering,
+    },
     Launch(Launch),
     /// With the launch as it is configured now, if that has changed.
     Restart(Option<Launch>),
@@ -195,6 +183,7 @@ pub enum EditorCommand {
     Evaluate {
         expression: Text,
         context: EvaluateContext,
+        format: ValueFormat,
     },
     /// At most `count` bytes, from `offset` bytes after or before an address.
     ReadMemory {
@@ -215,6 +204,7 @@ pub enum EditorCommand {
         offset: SignedOffset,
         instruction_offset: SignedOffset,
         instruction_count: u16,
+        operands: OperandStyle,
     },
     LoadedSources,
     /// Back by one place.

@@ -1,16 +1,19 @@
-// The tests of dap_editor: requests as editors write them, what each is read as, and what editors are told,
-// to the byte. They stand here, above the crate that they test, so that it is proved once: a crate is proved
-// again with each test that stands in it. Everything is tested through public functions. The JSON of what
-// goes out was written by hand from the schema of the Debug Adapter Protocol.
+// The tests of dap_editor and dap_arguments: requests as editors write them, and what each is read as. They
+// stand here, above the crates that they test, so that these are proved once: a crate is proved again with
+// each test that stands in it. Everything is tested through public functions.
 #![tactic(auto)]
 
 #[cfg(test)]
+mod breakpoints;
+#[cfg(test)]
 mod checks;
 #[cfg(test)]
-mod images;
-#[cfg(test)]
-mod messages;
+mod launches;
 #[cfg(test)]
 mod requests;
+#[cfg(test)]
+mod rows;
+#[cfg(test)]
+mod told;
 #[cfg(test)]
 mod variables;

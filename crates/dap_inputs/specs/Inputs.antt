@@ -77,7 +77,7 @@ set_input other = None
 -- what a request changes by hand if it is carried out on this board
 abbrev pub input_of : RequestContent → Board → Option Input
 input_of (asked.Board c) b = command_input c b.machine.regs
-input_of (asked.Editor (editor.Evaluate expression Repl)) b =
+input_of (asked.Editor (editor.Evaluate expression Repl format)) b =
     prompt_input (prompt_command expression) b.machine.regs
 input_of (asked.Editor (editor.Variables c)) b = set_input (value_set c b)
 input_of (asked.Editor (editor.WriteMemory address offset bytes)) b =
@@ -88,13 +88,14 @@ input_of other b = None
 
 -- If a watch may be a line of the prompt, it is evaluated as one.
 abbrev pub as_meant : Bool → RequestContent → RequestContent
-as_meant true (asked.Editor (editor.Evaluate line Watch)) = asked.Editor (editor.Evaluate line Repl)
+as_meant true (asked.Editor (editor.Evaluate line Watch format)) =
+    asked.Editor (editor.Evaluate line Repl format)
 as_meant has_commands a = a
 
 -- a line is typed by a request, or a program is loaded, which has asked for none
 abbrev pub ends_question : RequestContent → Bool
 ends_question (asked.Board (command.BoardType text)) = true
-ends_question (asked.Editor (editor.Evaluate line Repl)) = is_some (behind (codes "type ") line)
+ends_question (asked.Editor (editor.Evaluate line Repl format)) = is_some (behind (codes "type ") line)
 ends_question (asked.Editor (editor.Launch l)) = true
 ends_question (asked.Editor (editor.Restart l)) = true
 ends_question other = false

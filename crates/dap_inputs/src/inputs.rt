@@ -14,9 +14,8 @@ ghost use Rattle.dap_inputs.specs.Inputs.{prompt_input, bytes_input};
 use crate::prompt::{PromptCommand, is_typing, prompt_command};
 use base_text::latin::to_bytes;
 use base_text::sequence::Bytes;
-use dap_editor::request::{
-    EditorCommand, EvaluateContext, RequestContent, SignedOffset, VariablesCommand,
-};
+use dap_arguments::offset::SignedOffset;
+use dap_editor::request::{EditorCommand, EvaluateContext, RequestContent, VariablesCommand};
 use dap_history::input::Input;
 use dap_look::change::SetValue;
 use dap_program::memory::address_at;
@@ -158,10 +157,12 @@ pub fn as_meant(asked: RequestContent, has_watch_commands: bool) -> RequestConte
             EditorCommand::Evaluate {
                 expression,
                 context: EvaluateContext::Watch,
+                format,
             },
         ) if has_watch_commands => RequestContent::Editor(EditorCommand::Evaluate {
             expression,
             context: EvaluateContext::Repl,
+            format,
         }),
         other => other,
     }
@@ -177,6 +178,7 @@ pub fn ends_question(asked: &RequestContent) -> bool
             EditorCommand::Evaluate {
                 expression,
                 context: EvaluateContext::Repl,
+                format: _,
             },
         ) => is_typing(expression.as_str()),
         RequestContent::Editor(EditorCommand::Launch(_) | EditorCommand::Restart(_)) => true,
@@ -213,6 +215,7 @@ pub fn input_of(
             EditorCommand::Evaluate {
                 expression,
                 context: EvaluateContext::Repl,
+                format: _,
             },
         ) => prompt_input(alloc, expression.as_str(), lab.regs()),
         RequestContent::Editor(EditorCommand::Variables(command)) => {

@@ -11,6 +11,7 @@ use Rattle.dap_talk.specs.declared.command.DapCommand.{DapCommand}
 use Rattle.dap_talk.specs.declared.command.DapCommand.TheVariants as command
 use Rattle.dap_messages.specs.declared.message.EditorOutcome.{EditorOutcome}
 use Rattle.dap_messages.specs.declared.message.EditorOutcome.TheVariants.{Refused}
+use Rattle.dap_messages.specs.declared.message.ValueFormat.{ValueFormat}
 use Rattle.dap_editor.specs.declared.request.EditorCommand.{EditorCommand}
 use Rattle.dap_editor.specs.declared.request.EditorCommand.TheVariants as editor
 use Rattle.dap_editor.specs.declared.request.EvaluateContext.TheVariants as context
@@ -28,6 +29,7 @@ use Rattle.dap_session.specs.Requests as session
 use Rattle.dap_session.specs.Rewinds.{can_go_back, held_at}
 use Rattle.dap_session.specs.Laws.{asks_to_load, LeavesAll}
 use Rattle.dap_session.proofs.RefusalLemmas.{refused_turn}
+use Rattle.dap_session.proofs.ShownLemmas.{sets_nothing}
 use Rattle.dap_record.specs.declared.mid_search.MidSearch.TheVariants as mid
 use Rattle.dap_record.specs.declared.back.Back.{Back}
 use Rattle.dap_record.specs.Recordings.{Recording, RecordedState, recorded_before_requests, new_recording}
@@ -181,14 +183,17 @@ ends_done : (a : RequestContent) (found : Option FileText) (s : SessionState) �
 unfolding session.turn
 ends_done (asked.Board command.Disconnect) found s is opened = rw opened refl
 ends_done (asked.Editor editor.Terminate) found s is opened = rw opened refl
-ends_done (asked.Editor (editor.Evaluate expression context.Watch)) found s is opened = absurd cc
-ends_done (asked.Editor (editor.Evaluate expression context.Other)) found s is opened = absurd cc
+ends_done (asked.Editor (editor.Evaluate expression context.Watch format)) found s is opened = absurd cc
+ends_done (asked.Editor (editor.Evaluate expression context.Other format)) found s is opened = absurd cc
 ends_done (asked.Editor (editor.Variables (variables.Scopes frame))) found s is opened = absurd cc
-ends_done (asked.Editor (editor.Variables (variables.Variables reference start count))) found s is opened =
+ends_done (asked.Editor (editor.Variables (variables.Variables reference start count format))) found s is
+    opened =
     absurd cc
-ends_done (asked.Editor (editor.Variables (variables.SetVariable reference name value))) found s is opened =
+ends_done (asked.Editor (editor.Variables (variables.SetVariable reference name value format))) found s is
+    opened =
     absurd cc
-ends_done (asked.Editor (editor.Variables (variables.SetExpression expression value))) found s is opened =
+ends_done (asked.Editor (editor.Variables (variables.SetExpression expression value format))) found s is
+    opened =
     absurd cc
 ends_done (asked.Editor (editor.Variables (variables.Completions text column))) found s is opened = absurd cc
 ends_done (asked.Board c) found s is opened = absurd cc
@@ -261,20 +266,23 @@ look_command (command.Source path) is = record { loads = refl; input = λ b. ref
 look_command other is = absurd cc
 
 look_editing : (c : EditorCommand) → mid_search (asked.Editor c) ≡ mid.Look → IsNoChange (asked.Editor c)
-look_editing (editor.Evaluate expression context.Watch) is =
+look_editing (editor.Evaluate expression context.Watch format) is =
     record { loads = refl; input = λ b. refl; back = refl }
-look_editing (editor.Evaluate expression context.Other) is =
+look_editing (editor.Evaluate expression context.Other format) is =
     record { loads = refl; input = λ b. refl; back = refl }
 look_editing (editor.Variables (variables.Scopes frame)) is =
-    record { loads = refl; input = λ b. refl; back = refl }
-look_editing (editor.Variables (variables.Variables reference start count)) is =
-    record { loads = refl; input = λ b. refl; back = refl }
+    record { loads = refl; input = λ b. sets_nothing (variables.Scopes frame) b tt; back = refl }
+look_editing (editor.Variables (variables.Variables reference start count format)) is = record {
+  loads = refl;
+  input = λ b. sets_nothing (variables.Variables reference start count format) b tt;
+  back = refl;
+}
 look_editing (editor.Variables (variables.Completions text column)) is =
     record { loads = refl; input = λ b. refl; back = refl }
 look_editing editor.ExceptionInfo is = record { loads = refl; input = λ b. refl; back = refl }
 look_editing (editor.ReadMemory address offset count) is =
     record { loads = refl; input = λ b. refl; back = refl }
-look_editing (editor.Disassemble address offset instruction_offset count) is =
+look_editing (editor.Disassemble address offset instruction_offset count operands) is =
     record { loads = refl; input = λ b. refl; back = refl }
 look_editing editor.LoadedSources is = record { loads = refl; input = λ b. refl; back = refl }
 look_editing (editor.GotoTargets path line) is = record { loads = refl; input = λ b. refl; back = refl }
@@ -350,28 +358,31 @@ pub looks_all : (inputs : List Input) (a : RequestContent) (found : Option FileT
 looks_all inputs a found look = looks_leave a found (after_all inputs) look (recording_is inputs)
 
 hover_meant : (has_commands : Bool) (inputs : List Input) (found : Option FileText) (line : Text)
-    → (turn (as_meant has_commands (asked.Editor (editor.Evaluate line context.Other))) found
+    (format : ValueFormat)
+    → (turn (as_meant has_commands (asked.Editor (editor.Evaluate line context.Other format))) found
     (after_all inputs)).state ≡ tried_again (after_all inputs)
-hover_meant true inputs found line =
-    looks_all inputs (asked.Editor (editor.Evaluate line context.Other)) found refl
-hover_meant false inputs found line =
-    looks_all inputs (asked.Editor (editor.Evaluate line context.Other)) found refl
+hover_meant true inputs found line format =
+    looks_all inputs (asked.Editor (editor.Evaluate line context.Other format)) found refl
+hover_meant false inputs found line format =
+    looks_all inputs (asked.Editor (editor.Evaluate line context.Other format)) found refl
 
 pub hover_leaves : (inputs : List Input) (r : EditorRequest) (found : Option FileText) (line : Text)
-    → r.asked ≡ asked.Editor (editor.Evaluate line context.Other)
+    (format : ValueFormat)
+    → r.asked ≡ asked.Editor (editor.Evaluate line context.Other format)
     → (request_told r found (after_all inputs)).state ≡ tried_again (after_all inputs)
-hover_leaves inputs r found line is =
+hover_leaves inputs r found line format is =
     let v = after_all inputs in
     let has_commands = has_watch_commands v.session.settings.program in
     subst (λ a. (turn (as_meant has_commands a) found v).state ≡ tried_again v) (sym is)
-    (hover_meant has_commands inputs found line)
+    (hover_meant has_commands inputs found line format)
 
 pub watch_leaves : (inputs : List Input) (r : EditorRequest) (found : Option FileText) (line : Text)
-    → WatchesOnlyLook (after_all inputs) → r.asked ≡ asked.Editor (editor.Evaluate line context.Watch)
+    (format : ValueFormat)
+    → WatchesOnlyLook (after_all inputs) → r.asked ≡ asked.Editor (editor.Evaluate line context.Watch format)
     → (request_told r found (after_all inputs)).state ≡ tried_again (after_all inputs)
-watch_leaves inputs r found line none is =
+watch_leaves inputs r found line format none is =
     let v = after_all inputs in
-    let watch = asked.Editor (editor.Evaluate line context.Watch) in
+    let watch = asked.Editor (editor.Evaluate line context.Watch format) in
     subst (λ a. (turn (as_meant (has_watch_commands v.session.settings.program) a) found v).state
     ≡ tried_again v) (sym is)
     (subst (λ b. (turn (as_meant b watch) found v).state ≡ tried_again v) (sym none)

@@ -399,9 +399,9 @@ meant_loads : (has_commands : Bool) (a : RequestContent) → asks_to_load (as_me
 meant_loads false a = refl
 meant_loads true (asked.Board c) = refl
 meant_loads true (asked.Faulty fault) = refl
-meant_loads true (asked.Editor (editor.Evaluate line context.Repl)) = refl
-meant_loads true (asked.Editor (editor.Evaluate line context.Watch)) = refl
-meant_loads true (asked.Editor (editor.Evaluate line context.Other)) = refl
+meant_loads true (asked.Editor (editor.Evaluate line context.Repl format)) = refl
+meant_loads true (asked.Editor (editor.Evaluate line context.Watch format)) = refl
+meant_loads true (asked.Editor (editor.Evaluate line context.Other format)) = refl
 meant_loads true (asked.Editor c) = refl
 
 quiet_step : (input : Input) (v : RecordedState) → Stands v → is_live v.session.settings.program ≡ false

@@ -2,6 +2,7 @@
 ghost use Rattle.std.specs.Prelude.{◌≡◌, ◌-◌, ◌∷◌, ℕ, List, Bool, true, false, Option, Some};
 ghost use Rattle.lab_core.specs.declared.answer.End.{End};
 ghost use Rattle.base_text.specs.Bytes.{Text};
+ghost use Rattle.dap_messages.specs.declared.message.ValueFormat.{ValueFormat};
 ghost use Rattle.dap_editor.specs.declared.request.EditorCommand.TheVariants as editor;
 ghost use Rattle.dap_editor.specs.declared.request.EvaluateContext.TheVariants as context;
 ghost use Rattle.dap_editor.specs.declared.request.EditorRequest.{EditorRequest};
@@ -114,14 +115,15 @@ pub fn looks_leave_all()
 /// A hover leaves the board, the recording and the search as they were.
 pub fn hovers_leave_all()
     ensures { (inputs : List Input) (r : EditorRequest) (found : Option FileText) (line : Text)
-        → r.asked ≡ asked.Editor (editor.Evaluate line context.Other)
+        (format : ValueFormat) → r.asked ≡ asked.Editor (editor.Evaluate line context.Other format)
         → (request_told r found (after_all inputs)).state ≡ tried_again (after_all inputs) }
 {}
 
 /// So does a watch, unless the launch lets it be a line of the prompt.
 pub fn watches_leave_all()
     ensures { (inputs : List Input) (r : EditorRequest) (found : Option FileText) (line : Text)
-        → WatchesOnlyLook (after_all inputs) → r.asked ≡ asked.Editor (editor.Evaluate line context.Watch)
+        (format : ValueFormat) → WatchesOnlyLook (after_all inputs)
+        → r.asked ≡ asked.Editor (editor.Evaluate line context.Watch format)
         → (request_told r found (after_all inputs)).state ≡ tried_again (after_all inputs) }
 {}
 

@@ -4,6 +4,7 @@ ghost use Rattle.lab_core.specs.declared.answer.End.{End};
 ghost use Rattle.lab_core.specs.declared.answer.SliceOutcome.TheVariants as outcome;
 ghost use Rattle.dap_session.specs.Slices.{slice_end_in, after_slice_in};
 ghost use Rattle.base_text.specs.Bytes.{Text};
+ghost use Rattle.dap_messages.specs.declared.message.ValueFormat.{ValueFormat};
 ghost use Rattle.dap_editor.specs.declared.request.RequestContent.TheVariants as asked;
 ghost use Rattle.dap_editor.specs.declared.request.EditorCommand.TheVariants as editor;
 ghost use Rattle.dap_editor.specs.declared.request.EditorRequest.{EditorRequest};
@@ -41,8 +42,9 @@ pub fn console_is_whole()
 
 /// An evaluation for a hover or a watch leaves the board as it was.
 pub fn looks_keep_board()
-    ensures { (expression : Text) (found : Option FileText) (s : SessionState)
-        → (turn (asked.Editor (editor.Evaluate expression context.Other)) found s).state.board ≡ s.board }
+    ensures { (expression : Text) (format : ValueFormat) (found : Option FileText) (s : SessionState)
+        → (turn (asked.Editor (editor.Evaluate expression context.Other format)) found s).state.board ≡
+        s.board }
 {}
 
 /// At every moment the events have told whether the run on the board is stopped.

@@ -12,6 +12,8 @@ use Rattle.dap_expr.specs.declared.expression.Expression.{Expression}
 use Rattle.dap_expr.specs.Values.{value_on}
 use Rattle.dap_history.specs.declared.input.Input.{Input}
 use Rattle.dap_history.specs.Runs.{after_input}
+use Rattle.dap_messages.specs.declared.message.ShownValue.{ShownValue}
+use Rattle.dap_messages.specs.declared.message.ValueFormat.{ValueFormat}
 use Rattle.dap_target.specs.declared.change.ChangeFault.{ChangeFault}
 use Rattle.dap_target.specs.declared.target.Target.{Target}
 use Rattle.dap_target.specs.declared.target.Target.TheVariants as target
@@ -55,10 +57,10 @@ memory_stays m (target.Part part.AuxiliaryCarry) value shown = refl
 memory_stays m (target.Byte address) value shown = refl
 memory_stays m (target.Word address) value shown = refl
 
-shown_after : (b : Board) (t : Target) (value : ℕ) (i : Input) → IsWhole b.machine
+shown_after : (b : Board) (t : Target) (value : ℕ) (i : Input) (format : ValueFormat) → IsWhole b.machine
     → input_of b.machine.regs t value ≡ Ok i
-    → shown_as b.machine.regs t (value_taken t value) ≡ shown_at (after_input i b).machine t
-shown_after b t value i whole is =
+    → shown_as b.machine.regs t (value_taken t value) format ≡ shown_at (after_input i b).machine t format
+shown_after b t value i format whole is =
     let after = (after_input i b).machine in
     let taken = value_taken t value in
     let same : memory_of after.regs t taken ≡ memory_of b.machine.regs t taken =
@@ -67,26 +69,29 @@ shown_after b t value i whole is =
     let there : value_at after t ≡ taken = change_is_there b t value i whole is in
     rw (there, same) refl
 
-pub change_is_shown : (b : Board) (t : Target) (value : ℕ) (s : SetValue) → IsWhole b.machine
-    → set_to b.machine.regs t value ≡ Ok s → s.shown ≡ shown_at (after_input s.input b).machine t
-change_is_shown b t value s whole is = by (input_of b.machine.regs t value) refl is
+pub change_is_shown : (b : Board) (t : Target) (value : ℕ) (s : SetValue) (format : ValueFormat)
+    → IsWhole b.machine → set_to b.machine.regs t value format ≡ Ok s
+    → s.shown ≡ shown_at (after_input s.input b).machine t format
+change_is_shown b t value s format whole is = by (input_of b.machine.regs t value) refl is
   where
+    shown : ShownValue
+    shown = shown_as b.machine.regs t (value_taken t value) format
+
     by : (found : Result Input ChangeFault) → input_of b.machine.regs t value ≡ found
-        → (or_fault found
-        >>= λ i. Ok (record { input = i; shown = shown_as b.machine.regs t (value_taken t value) }))
-        ≡ Ok s
-        → s.shown ≡ shown_at (after_input s.input b).machine t
+        → (or_fault found >>= λ i. Ok (record { input = i; shown = shown })) ≡ Ok s
+        → s.shown ≡ shown_at (after_input s.input b).machine t format
     by (Ok i) found e =
-        let made : record { input = i; shown = shown_as b.machine.regs t (value_taken t value) } ≡ s = cc in
-        sym (ap (λ (x : SetValue). x.shown) made) ∙ shown_after b t value i whole found
-        ∙ ap (λ (x : SetValue). shown_at (after_input x.input b).machine t) made
+        let made : record { input = i; shown = shown } ≡ s = cc in
+        sym (ap (λ (x : SetValue). x.shown) made) ∙ shown_after b t value i format whole found
+        ∙ ap (λ (x : SetValue). shown_at (after_input x.input b).machine t format) made
     by (Err why) found e = absurd cc
 
 -- a place that has its expression's value is shown with it
-pub value_is_shown : (b : Board) (e : Expression) (t : Target) (value : ℕ) → target_on b e ≡ Some t
-    → value_on b e ≡ Ok value → expression_shown b e ≡ Ok (shown_as b.machine.regs t value)
-value_is_shown b e t value names has =
+pub value_is_shown : (b : Board) (e : Expression) (t : Target) (value : ℕ) (format : ValueFormat)
+    → target_on b e ≡ Some t → value_on b e ≡ Ok value
+    → expression_shown b e format ≡ Ok (shown_as b.machine.regs t value format)
+value_is_shown b e t value format names has =
     let held : Result ℕ ExprFault = Ok (value_at b.machine t) in
     let both : held ≡ Ok value = sym (target_has_value b e t names) ∙ has in
     let same : value_at b.machine t ≡ value = cc in
-    rw names (ap (λ v. Ok (shown_as b.machine.regs t v)) same)
+    rw names (ap (λ v. Ok (shown_as b.machine.regs t v format)) same)

@@ -1,5 +1,5 @@
 -- The value of an expression as an editor shows it (Debug Adapter Protocol, `evaluate`).
-use Rattle.std.specs.Prelude.{ℕ, Bool, not, ◌&&◌, ◌||◌, ◌==◌, Option, Some, None, Result, Ok, Err, length}
+use Rattle.std.specs.Prelude.{ℕ, Bool, not, ◌&&◌, ◌==◌, Option, Some, None, Result, Ok, Err, length}
 use Rattle.std.specs.Prelude.{if◌then◌else◌}
 use Rattle.std.specs.List.{list_any}
 use Rattle.std.specs.Str.{trim}
@@ -11,6 +11,7 @@ use Rattle.dap_expr.specs.declared.expression.Expression.{Expression}
 use Rattle.dap_expr.specs.Expressions.{expression_of}
 use Rattle.dap_expr.specs.Values.{value_on}
 use Rattle.dap_messages.specs.declared.message.ShownValue.{ShownValue}
+use Rattle.dap_messages.specs.declared.message.ValueFormat.{ValueFormat}
 use Rattle.dap_target.specs.declared.target.Target.{Target}
 use Rattle.dap_target.specs.Targets.{target_on}
 use Rattle.dap_look.specs.declared.fault.LookFault.{LookFault}
@@ -19,13 +20,12 @@ use Rattle.dap_look.specs.Shown.{shown_at, value_shown}
 
 -- ---- what is read
 
--- LF or CR
-abbrev pub is_line_end : ℕ → Bool
-is_line_end c = c == 10 || c == 13
+abbrev pub contains : Text → ℕ → Bool
+contains text c = list_any (λ d. d == c) text
 
--- it isn't empty, and has neither
+-- it isn't empty, and has neither LF nor CR
 abbrev pub is_one_line : Text → Bool
-is_one_line text = not (length text == 0) && not (list_any is_line_end text)
+is_one_line text = not (length text == 0) && not (contains text 10) && not (contains text 13)
 
 abbrev pub or_syntax : Result Expression Fault → Result Expression LookFault
 or_syntax (Ok e) = Ok e
@@ -49,13 +49,13 @@ abbrev pub value_read : Board → Text → Result ℕ LookFault
 value_read b text = expression_read text >>= λ e. or_fault (value_on b e)
 
 -- as the place that it names holds it, if it names one
-abbrev pub shown_in : Board → Expression → Option Target → Result ShownValue LookFault
-shown_in b e (Some t) = Ok (shown_at b.machine t)
-shown_in b e None = or_fault (value_on b e) >>= λ value. Ok (value_shown value)
+abbrev pub shown_in : Board → Expression → Option Target → ValueFormat → Result ShownValue LookFault
+shown_in b e (Some t) format = Ok (shown_at b.machine t format)
+shown_in b e None format = or_fault (value_on b e) >>= λ value. Ok (value_shown value format)
 
-abbrev pub expression_shown : Board → Expression → Result ShownValue LookFault
-expression_shown b e = shown_in b e (target_on b e)
+abbrev pub expression_shown : Board → Expression → ValueFormat → Result ShownValue LookFault
+expression_shown b e format = shown_in b e (target_on b e) format
 
 -- the value of the expression that a text is, as it is shown
-abbrev pub evaluation_of : Board → Text → Result ShownValue LookFault
-evaluation_of b text = expression_read text >>= expression_shown b
+abbrev pub evaluation_of : Board → Text → ValueFormat → Result ShownValue LookFault
+evaluation_of b text format = expression_read text >>= λ e. expression_shown b e format

@@ -1,6 +1,5 @@
 //! Values of expressions.
 ghost use Rattle.std.specs.Prelude.{◌≡◌};
-ghost use Rattle.std.specs.List.{list_any};
 ghost use Rattle.lab_core.specs.Board.{Board};
 ghost use Rattle.lab_core.specs.Labs.{RepresentsBoard};
 ghost use Rattle.dap_expr.specs.Values.{value_on};
@@ -13,27 +12,16 @@ use crate::shown::{shown_at, value_shown};
 use asm_expr::evaluation::ExprFault;
 use asm_syntax::fault::LineFault;
 use dap_expr::expression::Expression;
-use dap_messages::message::ShownValue;
+use dap_messages::message::{ShownValue, ValueFormat};
 use dap_target::target::target_of;
 use lab_core::lab::Lab;
 use std::alloc::Global;
 
-fn is_line_end(byte: u8) -> bool
-    ensures { result ≡ evaluation.is_line_end byte }
-{
-    byte == b'\n' || byte == b'\r'
-}
-
-fn has_line_end(text: &str) -> bool
-    ensures { result ≡ list_any evaluation.is_line_end text.now }
-{
-    text.as_bytes().iter().any(|byte| is_line_end(*byte))
-}
-
 fn is_one_line(text: &str) -> bool
     ensures { result ≡ evaluation.is_one_line text.now }
 {
-    !text.is_empty() && !has_line_end(text)
+    let bytes = text.as_bytes();
+    !bytes.is_empty() && !bytes.contains(&b'\n') && !bytes.contains(&b'\r')
 }
 
 fn read_trimmed(alloc: Global, text: &str) -> Result<Expression, LookFault>
@@ -78,27 +66,35 @@ fn expression_shown(
     alloc: Global,
     lab: &Lab,
     expression: &Expression,
+    format: ValueFormat,
 ) -> Result<ShownValue, LookFault>
     ensures { (b : Board) → RepresentsBoard lab.now b
-        → LookGives result (evaluation.expression_shown b expression.now) }
+        → LookGives result (evaluation.expression_shown b expression.now format) }
 {
     match target_of(alloc, lab, expression)? {
-        Some(target) => Ok(shown_at(alloc, lab, target)?),
+        Some(target) => shown_at(alloc, lab, target, format),
         None => {
             let value = or_fault(expression.value(lab))?;
-            Ok(value_shown(alloc, value)?)
+            value_shown(alloc, value, format)
         }
     }
 }
 
-/// The value of an expression as an editor shows it: `0hhH` for a byte of the machine, 0 or 1 for a flag, and
-/// `0hhhhH` for any other value. A memory window on it begins where the byte or the word is, else at the
-/// value, which may be an address; for a register of one byte, PSW and a flag there is none.
+/// The value of an expression as an editor shows it. In hexadecimal a byte of the machine is `0hhH` and any
+/// other value but a flag `0hhhhH`, in decimal they are like `165` and `259`; a flag is 0 or 1 in both. A
+/// memory window on the value begins where the byte or the word is, else at the value, which may be an
+/// address; for a register of one byte, PSW and a flag there is none.
 ///
 /// White space at the ends is ignored. An empty text and a text with LF or CR fail with `NoExpression`.
-pub fn evaluate(alloc: Global, lab: &Lab, text: &str) -> Result<ShownValue, LookFault>
-    ensures { (b : Board) → RepresentsBoard lab.now b → LookGives result (evaluation_of b text.now) }
+pub fn evaluate(
+    alloc: Global,
+    lab: &Lab,
+    text: &str,
+    format: ValueFormat,
+) -> Result<ShownValue, LookFault>
+    ensures { (b : Board) → RepresentsBoard lab.now b
+        → LookGives result (evaluation_of b text.now format) }
 {
     let expression = expression_read(alloc, text)?;
-    expression_shown(alloc, lab, &expression)
+    expression_shown(alloc, lab, &expression, format)
 }

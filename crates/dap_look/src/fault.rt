@@ -1,5 +1,6 @@
 //! Why an expression has no value, or a place can't get one.
-ghost use Rattle.std.specs.Prelude.{◌≡◌, IfOk};
+ghost use Rattle.std.specs.Prelude.{◌≡◌, ◌≢◌, IfOk};
+ghost use Rattle.dap_look.specs.declared.fault.LookFault.TheVariants as fault;
 ghost use Rattle.dap_look.specs.Faults.{message_of, value_fault_name, change_fault};
 
 use asm_expr::evaluation::ExprFault;
@@ -7,11 +8,9 @@ use asm_syntax::fault::FaultKind;
 use base_text::text::Text;
 use dap_target::change::ChangeFault;
 use std::alloc::{AllocError, Global};
-use std::fmt;
-use thiserror::Error;
 
 /// Why an expression has no value, or a place can't get one.
-#[derive(Clone, Copy, Error)]
+#[derive(Clone, Copy)]
 pub enum LookFault {
     OutOfMemory,
     /// A text that is empty or has more than one line.
@@ -49,44 +48,44 @@ pub(crate) fn change_fault(fault: ChangeFault) -> LookFault
     }
 }
 
+fn syntax_message(alloc: Global, column: usize, kind: FaultKind) -> Result<Text, AllocError>
+    ensures { IfOk result (λ text. text ≡ message_of (fault.Syntax column kind)) }
+{
+    let name = kind.name();
+    let mut text = String::new(alloc);
+    write!(text, "column {column}: {name}")?;
+    Ok(Text::from(text))
+}
+
+fn bound_message(alloc: Global, most: u16) -> Result<Text, AllocError>
+    ensures { IfOk result (λ text. text ≡ message_of (fault.TooLarge most)) }
+{
+    let mut text = String::new(alloc);
+    write!(text, "the value must be from 0 to {most}")?;
+    Ok(Text::from(text))
+}
+
 impl LookFault {
-    /// The text that an editor shows.
+    /// The text that an editor shows. There is none for `OutOfMemory`, which is an error of its own.
     pub fn message(self, alloc: Global) -> Result<Text, AllocError>
-        ensures { IfOk result (λ text. text ≡ message_of self) }
+        ensures message { IfOk result (λ text. text ≡ message_of self) }
+        ensures other { IfOk result (λ _. self ≢ fault.OutOfMemory) }
     {
-        let text = self.to_string(alloc)?;
-        Ok(Text::from(text))
-    }
-}
-
-impl fmt::Display for LookFault {
-    ghost use Rattle.std.specs.Prelude.{Some};
-    ghost use Rattle.dap_look.specs.Faults.{message_of};
-
-    ghost output = { λ fault. Some (message_of fault) };
-
-    fn fmt<W: fmt::Write>(&self, f: &mut fmt::Formatter<W>) -> fmt::Result {
-        match *self {
-            LookFault::OutOfMemory => f.write_str("out of memory"),
-            LookFault::NoExpression => f.write_str("an expression has one line, and a value"),
-            LookFault::Syntax { column, kind } => {
-                let name = kind.name();
-                write!(f, "column {column}: {name}")
+        match self {
+            LookFault::OutOfMemory => Err(AllocError),
+            LookFault::NoExpression => {
+                Text::copy_of(alloc, "an expression has one line, and a value")
             }
-            LookFault::Value(fault) => f.write_str(value_fault_name(fault)),
-            LookFault::NoPlace => {
-                f.write_str("this is no place: a register, a flag, [e] or word[e] is one")
-            }
-            LookFault::NoVariable => f.write_str("no such variable"),
-            LookFault::TooLarge { most } => write!(f, "the value must be from 0 to {most}"),
-            LookFault::NoRoom => f.write_str("a word has no room at FFFF"),
+            LookFault::Syntax { column, kind } => syntax_message(alloc, column, kind),
+            LookFault::Value(fault) => Text::copy_of(alloc, value_fault_name(fault)),
+            LookFault::NoPlace => Text::copy_of(
+                alloc,
+                "this is no place: a register, a flag, [e] or word[e] is one",
+            ),
+            LookFault::NoVariable => Text::copy_of(alloc, "no such variable"),
+            LookFault::TooLarge { most } => bound_message(alloc, most),
+            LookFault::NoRoom => Text::copy_of(alloc, "a word has no room at FFFF"),
         }
-    }
-}
-
-impl fmt::Debug for LookFault {
-    fn fmt<W: fmt::Write>(&self, f: &mut fmt::Formatter<W>) -> fmt::Result {
-        fmt::Display::fmt(self, f)
     }
 }
 

@@ -1,31 +1,37 @@
 //! Values as an editor shows them.
-ghost use Rattle.std.specs.Prelude.{◌≡◌, ◌≤◌, ◌++◌, IfOk, OnOk, string_bytes};
+ghost use Rattle.std.specs.Prelude.{◌≡◌, ◌≤◌, IfOk, Ok};
 ghost use Rattle.lab_core.specs.Board.{Board};
 ghost use Rattle.lab_core.specs.Labs.{RepresentsBoard};
 ghost use Rattle.dap_target.specs.Targets.{size_of};
+ghost use Rattle.dap_look.specs.Faults.{LookGives};
 ghost use Rattle.dap_look.specs.Shown as shown;
 
+use crate::fault::LookFault;
 use asm_syntax::keyword::RegisterWord;
-use asm_syntax::numeral::{push_byte, push_word};
 use base_text::text::Text;
 use dap_expr::part::{Part, hl};
-use dap_messages::message::ShownValue;
+use dap_inspect::format::{byte_shown, word_shown};
+use dap_messages::message::{ShownValue, ValueFormat};
 use dap_target::target::{Size, Target, value_at};
 use i80_exec::registers::Registers;
 use lab_core::lab::Lab;
+use lab_views::texts::decimal;
 use std::alloc::{AllocError, Global};
 
-fn value_text(alloc: Global, size: Size, value: u16) -> Result<Text, AllocError>
+fn value_text(
+    alloc: Global,
+    size: Size,
+    value: u16,
+    format: ValueFormat,
+) -> Result<Text, AllocError>
     requires { size ≡ Size.Byte → value ≤ 255 }
-    ensures { IfOk result (λ text. text ≡ shown.value_text size value) }
+    ensures { IfOk result (λ text. text ≡ shown.value_text size value format) }
 {
-    let mut text = String::new(alloc);
     match size {
-        Size::Flag => write!(text, "{value}")?,
-        Size::Byte => push_byte(&mut text, value as u8)?,
-        Size::Word => push_word(&mut text, value)?,
+        Size::Flag => decimal(alloc, usize::from(value)),
+        Size::Byte => byte_shown(alloc, format, value as u8),
+        Size::Word => word_shown(alloc, format, value),
     }
-    Ok(Text::from(text))
 }
 
 fn part_memory(regs: Registers, part: Part, value: u16) -> Option<u16>
@@ -54,30 +60,38 @@ pub(crate) fn shown_as(
     regs: Registers,
     target: Target,
     value: u16,
-) -> Result<ShownValue, AllocError>
+    format: ValueFormat,
+) -> Result<ShownValue, LookFault>
     requires { size_of target ≡ Size.Byte → value ≤ 255 }
-    ensures { IfOk result (λ value_shown. value_shown ≡ shown.shown_as regs target value) }
+    ensures { LookGives result (Ok (shown.shown_as regs target value format)) }
 {
-    let text = value_text(alloc, target.size(), value)?;
+    let text = value_text(alloc, target.size(), value, format)?;
     let memory = memory_of(regs, target, value);
     Ok(ShownValue { text, memory })
 }
 
 /// What a place holds.
-pub(crate) fn shown_at(alloc: Global, lab: &Lab, target: Target) -> Result<ShownValue, AllocError>
+pub(crate) fn shown_at(
+    alloc: Global,
+    lab: &Lab,
+    target: Target,
+    format: ValueFormat,
+) -> Result<ShownValue, LookFault>
     ensures { (b : Board) → RepresentsBoard lab.now b
-        → IfOk result (λ value_shown. value_shown ≡ shown.shown_at b.machine target) }
+        → LookGives result (Ok (shown.shown_at b.machine target format)) }
 {
-    shown_as(alloc, lab.regs(), target, value_at(lab, target))
+    shown_as(alloc, lab.regs(), target, value_at(lab, target), format)
 }
 
 /// A value that is no place's.
-pub(crate) fn value_shown(alloc: Global, value: u16) -> Result<ShownValue, AllocError>
-    ensures { IfOk result (λ value_shown. value_shown ≡ shown.value_shown value) }
+pub(crate) fn value_shown(
+    alloc: Global,
+    value: u16,
+    format: ValueFormat,
+) -> Result<ShownValue, LookFault>
+    ensures { LookGives result (Ok (shown.value_shown value format)) }
 {
-    let mut text = String::new(alloc);
-    push_word(&mut text, value)?;
-    let text = Text::from(text);
+    let text = word_shown(alloc, format, value)?;
     Ok(ShownValue {
         text,
         memory: Some(value),

@@ -4,7 +4,7 @@ ghost use Rattle.dap_look.specs.Variables as variables;
 
 use asm_syntax::keyword::RegisterWord;
 use base_text::hexadecimal::read_word;
-use dap_expr::part::Part;
+use dap_expr::part::{Part, own_name};
 use dap_target::target::Target;
 
 const REGISTERS: u32 = 1;
@@ -15,38 +15,48 @@ const MEMORY: u32 = 5;
 
 const STACK: u32 = 6;
 
-fn register_named(name: &[u8]) -> Option<Part>
-    ensures { result ≡ variables.part_among variables.registers name.now }
+const REGISTER_PARTS: [Part; 13] = [
+    Part::Register(RegisterWord::A),
+    Part::Register(RegisterWord::B),
+    Part::Register(RegisterWord::C),
+    Part::Register(RegisterWord::D),
+    Part::Register(RegisterWord::E),
+    Part::Register(RegisterWord::H),
+    Part::Register(RegisterWord::L),
+    Part::Register(RegisterWord::Sp),
+    Part::Pc,
+    Part::Bc,
+    Part::De,
+    Part::Hl,
+    Part::Register(RegisterWord::Psw),
+];
+
+const FLAG_PARTS: [Part; 5] = [
+    Part::Sign,
+    Part::Zero,
+    Part::AuxiliaryCarry,
+    Part::Parity,
+    Part::Carry,
+];
+
+/// A part's own name without its `$`.
+fn variable_name(part: Part) -> &'static [u8]
+    ensures { result.now ≡ variables.variable_name part }
 {
-    match name {
-        b"A" => Some(Part::Register(RegisterWord::A)),
-        b"B" => Some(Part::Register(RegisterWord::B)),
-        b"C" => Some(Part::Register(RegisterWord::C)),
-        b"D" => Some(Part::Register(RegisterWord::D)),
-        b"E" => Some(Part::Register(RegisterWord::E)),
-        b"H" => Some(Part::Register(RegisterWord::H)),
-        b"L" => Some(Part::Register(RegisterWord::L)),
-        b"SP" => Some(Part::Register(RegisterWord::Sp)),
-        b"PC" => Some(Part::Pc),
-        b"BC" => Some(Part::Bc),
-        b"DE" => Some(Part::De),
-        b"HL" => Some(Part::Hl),
-        b"PSW" => Some(Part::Register(RegisterWord::Psw)),
-        _ => None,
+    match own_name(part).as_bytes() {
+        [_, name @ ..] => name,
+        [] => &[],
     }
 }
 
-fn flag_named(name: &[u8]) -> Option<Part>
-    ensures { result ≡ variables.part_among variables.flags name.now }
+/// The part of these that has this name.
+fn part_among(parts: &[Part], name: &[u8]) -> Option<Part>
+    ensures { result ≡ variables.part_among parts.now name.now }
 {
-    match name {
-        b"S" => Some(Part::Sign),
-        b"Z" => Some(Part::Zero),
-        b"AC" => Some(Part::AuxiliaryCarry),
-        b"P" => Some(Part::Parity),
-        b"CY" => Some(Part::Carry),
-        _ => None,
-    }
+    parts
+        .iter()
+        .copied()
+        .find(|part| name == variable_name(*part))
 }
 
 fn part_target(part: Option<Part>) -> Option<Target>
@@ -82,8 +92,8 @@ pub(crate) fn variable_target(reference: u32, name: &str) -> Option<Target>
 {
     let name = name.as_bytes();
     match reference {
-        REGISTERS => part_target(register_named(name)),
-        FLAGS => part_target(flag_named(name)),
+        REGISTERS => part_target(part_among(&REGISTER_PARTS, name)),
+        FLAGS => part_target(part_among(&FLAG_PARTS, name)),
         MEMORY => byte_named(name),
         STACK => word_named(name),
         _ => None,

@@ -1,3 +1,1 @@
-pub mod FloatLemmas
-pub mod DepthLemmas
-pub mod PathLemmas
+pub mod NumberingLemmas

@@ -1,1 +1,1 @@
-pub mod Json
+pub mod Numbering

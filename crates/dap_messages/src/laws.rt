@@ -1,18 +1,13 @@
 //! Laws of the definitions.
-ghost use Rattle.std.specs.Prelude.{◌≡◌, ◌≤◌, ℕ, false};
-ghost use Rattle.serde_json.specs.Data.{depth};
-ghost use Rattle.serde_json.specs.Written.{has_float};
-ghost use Rattle.dap_messages.specs.declared.message.Message.{Message};
-ghost use Rattle.dap_messages.specs.Json.{message_json};
+ghost use Rattle.std.specs.Prelude.{◌≡◌, ◌≤◌, ℕ};
+ghost use Rattle.dap_messages.specs.declared.message.Numbering.{Numbering};
+ghost use Rattle.dap_messages.specs.Numbering.{line_told, column_told, line_meant, column_meant};
 
-/// No number in a message is a float, so that the message has one compact text.
-#[tactic(auto, using(crate::proofs::FloatLemmas::message_has_no_float))]
-pub fn has_no_float()
-    ensures { (seq : ℕ) (message : Message) → has_float (message_json seq message) ≡ false }
-{}
-
-/// A message nests at most 6 deep, so that its text can be read again.
-#[tactic(auto, using(crate::proofs::DepthLemmas::message_is_shallow))]
-pub fn is_shallow()
-    ensures { (seq : ℕ) (message : Message) → depth (message_json seq message) ≤ 6 }
+/// A line or a column that an editor sends back is the one that it was told.
+#[tactic(auto, using(crate::proofs::NumberingLemmas::meant_of_told))]
+pub fn lines_come_back()
+    ensures line { (numbering : Numbering) (line : ℕ) → 1 ≤ line → line ≤ 4294967295
+        → line_meant numbering (line_told numbering line) ≡ line }
+    ensures column { (numbering : Numbering) (column : ℕ) → 1 ≤ column → column ≤ 4294967295
+        → column_meant numbering (column_told numbering column) ≡ column }
 {}

@@ -1,12 +1,8 @@
-// Messages of the debugger to an editor (Debug Adapter Protocol): responses with their bodies, and events.
-// `message_json` is the JSON of a message with its number. `laws` says that it can be read again. Writing
-// allocates only for what a message carries.
+// Messages of the debugger to an editor (Debug Adapter Protocol): responses with their bodies, and events;
+// and how an editor counts lines and columns (`Numbering`). `laws` says that a line or a column that an
+// editor sends back is the one that it was told.
 #![tactic(auto)]
 
-mod bodies;
-mod events;
-pub mod json;
 pub mod laws;
 pub mod message;
-mod sources;
-mod variables;
+pub mod numbering;

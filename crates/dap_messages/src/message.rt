@@ -3,6 +3,7 @@ use base_text::sequence::{Bytes, Sequence};
 use base_text::text::Text;
 use dap_answers::answer::{Body, StopReason};
 use lab_shown::place::PlaceChange;
+use lab_shown::shown::CodeLine;
 
 /// Why a breakpoint isn't verified, or isn't on the line that was asked for.
 #[derive(Clone, Drop)]
@@ -108,13 +109,55 @@ pub struct Completion {
     pub kind: CompletionKind,
 }
 
+/// The line of a text that an instruction comes from.
+#[derive(Drop)]
+pub struct InstructionLine {
+    /// The text's path.
+    pub path: Text,
+    /// From 1.
+    pub line: usize,
+}
+
+/// A line of disassembly as an editor shows it (Debug Adapter Protocol, "DisassembledInstruction").
+#[derive(Drop)]
+pub struct EditorInstruction {
+    pub code: CodeLine,
+    /// The label at its address.
+    pub symbol: Option<Text>,
+    /// Where it comes from, if that is known.
+    pub origin: Option<InstructionLine>,
+}
+
+/// How the operands of a disassembly are written (Debug Adapter Protocol, `disassemble`: `resolveSymbols`).
+#[derive(Clone, Copy)]
+pub enum OperandStyle {
+    Numbers,
+    /// An address that a label has is written as the label.
+    Labels,
+}
+
+/// How numbers in values are written (Debug Adapter Protocol, "ValueFormat").
+#[derive(Clone, Copy)]
+pub enum ValueFormat {
+    /// As the assembler writes them, `0hhH` or `0hhhhH`.
+    Hexadecimal,
+    Decimal,
+}
+
+/// How an editor counts lines and columns (Debug Adapter Protocol, `initialize`).
+#[derive(Clone, Copy)]
+pub struct Numbering {
+    pub lines_start_at_1: bool,
+    pub columns_start_at_1: bool,
+}
+
 /// The body of a successful response.
 #[derive(Drop)]
 pub enum EditorBody {
     /// Of a command that the kernel has too.
     Board(Body),
-    /// Of `initialize`: what this debugger supports.
-    Capabilities,
+    /// Of `initialize`: what this debugger supports. From then on lines and columns are counted so.
+    Capabilities(Numbering),
     /// Of `setBreakpoints` and the other requests that set breakpoints.
     Breakpoints(Sequence<PlacedBreakpoint>),
     /// Of `dataBreakpointInfo`.
@@ -146,6 +189,13 @@ pub enum EditorBody {
         bytes: Bytes,
         unreadable: u32,
     },
+    /// Of `readMemory` from an address that doesn't exist: that address, and how many bytes were requested.
+    NoMemory {
+        address: i64,
+        count: u32,
+    },
+    /// Of `disassemble`.
+    Instructions(Sequence<EditorInstruction>),
     /// Of `writeMemory`: the number of bytes.
     Written(u32),
     /// Of `loadedSources`: their paths.

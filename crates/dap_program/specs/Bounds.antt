@@ -5,14 +5,14 @@ use Rattle.dap_talk.specs.declared.command.DapCommand.TheVariants as command
 use Rattle.dap_editor.specs.declared.request.RequestContent.{RequestContent}
 use Rattle.dap_editor.specs.declared.request.RequestContent.TheVariants as asked
 use Rattle.dap_editor.specs.declared.request.EditorCommand.TheVariants as editor
-use Rattle.dap_editor.specs.declared.request.SignedOffset.{SignedOffset}
-use Rattle.dap_editor.specs.declared.request.SignedOffset.TheVariants.{Forward, Back}
+use Rattle.dap_arguments.specs.declared.offset.SignedOffset.{SignedOffset}
+use Rattle.dap_arguments.specs.declared.offset.SignedOffset.TheVariants.{Forward, Back}
 
 -- a request that may come before `initialize`
 abbrev pub opens : RequestContent → Bool
 opens (asked.Board command.Initialize) = true
 opens (asked.Board command.Disconnect) = true
-opens (asked.Editor (editor.Initialize supported)) = true
+opens (asked.Editor (editor.Initialize supported numbering)) = true
 opens (asked.Faulty f) = true
 opens other = false
 
@@ -35,6 +35,6 @@ is_bounded (asked.Editor (editor.SetFunctionBreakpoints functions)) = nat_le (le
 is_bounded (asked.Editor (editor.SetDataBreakpoints breakpoints)) = nat_le (length breakpoints) 256
 is_bounded (asked.Editor (editor.SetInstructionBreakpoints breakpoints)) =
     nat_le (length breakpoints) 256
-is_bounded (asked.Editor (editor.Disassemble address offset instruction_offset count)) =
+is_bounded (asked.Editor (editor.Disassemble address offset instruction_offset count operands)) =
     is_near instruction_offset && is_few count
 is_bounded other = true

@@ -4,7 +4,8 @@ ghost use Rattle.dap_board.specs.Commands.{IsPerformable};
 ghost use Rattle.dap_program.specs.Bounds as bounds;
 ghost use Rattle.dap_program.specs.Bounds.{opens, is_bounded};
 
-use dap_editor::request::{EditorCommand, RequestContent, SignedOffset};
+use dap_arguments::offset::SignedOffset;
+use dap_editor::request::{EditorCommand, RequestContent};
 use dap_talk::command::DapCommand;
 
 /// The most breakpoints of a request.
@@ -26,7 +27,7 @@ pub fn opens(asked: &RequestContent) -> bool
     matches!(
         asked,
         RequestContent::Board(DapCommand::Initialize | DapCommand::Disconnect)
-            | RequestContent::Editor(EditorCommand::Initialize(_))
+            | RequestContent::Editor(EditorCommand::Initialize { .. })
             | RequestContent::Faulty(_)
     )
 }

@@ -1,8 +1,8 @@
 //! Addresses at a distance, and bytes that fit behind one.
 ghost use Rattle.std.specs.Prelude.{◌≡◌, ◌≤◌, ◌+◌, ◌-◌, length, take};
-ghost use Rattle.dap_program.specs.Memory.{address_at, wrapped_at};
+ghost use Rattle.dap_program.specs.Memory.{address_at, far_address, wrapped_at};
 
-use dap_editor::request::SignedOffset;
+use dap_arguments::offset::SignedOffset;
 
 /// The number of addresses.
 const ADDRESSES: usize = 65_536;
@@ -23,6 +23,16 @@ pub fn address_at(address: u16, offset: SignedOffset) -> Option<u16>
                 None
             }
         }
+    }
+}
+
+/// Where the address at this distance from another is, even if there is no such address.
+pub fn far_address(address: u16, offset: SignedOffset) -> i64
+    ensures { result ≡ far_address address offset }
+{
+    match offset {
+        SignedOffset::Forward(n) => i64::from(address) + i64::from(n),
+        SignedOffset::Back(n) => i64::from(address) - i64::from(n),
     }
 }
 

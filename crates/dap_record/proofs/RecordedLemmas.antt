@@ -27,11 +27,13 @@ use Rattle.dap_program.specs.declared.messages.FollowUp.TheVariants.{Nothing}
 use Rattle.dap_program.specs.declared.messages.RequestId.{RequestId}
 use Rattle.dap_inputs.specs.Inputs.{ends_question}
 use Rattle.dap_session.specs.States.{SessionState, with_waits, after_answer}
+use Rattle.dap_session.specs.Turns.{Replied}
 use Rattle.dap_session.specs.Requests as session
 use Rattle.dap_session.specs.Requests.{board_done, explaining, commanding, asking, asking_unless, objection}
 use Rattle.dap_session.specs.Represents as sessions
 use Rattle.dap_session.specs.Represents.{RepresentsSession, SessionFields}
 use Rattle.dap_session.specs.Slices.{told_in as sessions_told_in}
+use Rattle.dap_session.proofs.ShownLemmas.{handled_shown}
 use Rattle.dap_record.specs.Fields.{RecordingFields, GoalSearchFields, RecordedFields}
 use Rattle.dap_record.specs.declared.back.Back.{Back}
 use Rattle.dap_record.specs.declared.mid_search.MidSearch.TheVariants as mid
@@ -85,14 +87,16 @@ left_command other s is = absurd cc
 left_editing : (c : EditorCommand) (found : Option FileText) (s : SessionState) → mid_search_editing c ≡
     mid.Look
     → (asking (asked.Editor c) found s).state ≡ s
-left_editing (editor.Evaluate expression context.Watch) found s is = refl
-left_editing (editor.Evaluate expression context.Other) found s is = refl
-left_editing (editor.Variables (variables.Scopes frame)) found s is = refl
-left_editing (editor.Variables (variables.Variables reference start count)) found s is = refl
+left_editing (editor.Evaluate expression context.Watch format) found s is = refl
+left_editing (editor.Evaluate expression context.Other format) found s is = refl
+left_editing (editor.Variables (variables.Scopes frame)) found s is =
+    ap (λ (r : Replied). r.state) (handled_shown (variables.Scopes frame) s tt).1
+left_editing (editor.Variables (variables.Variables reference start count format)) found s is =
+    ap (λ (r : Replied). r.state) (handled_shown (variables.Variables reference start count format) s tt).1
 left_editing (editor.Variables (variables.Completions text column)) found s is = refl
 left_editing editor.ExceptionInfo found s is = left_explained (exception_of s.settings.program) s
 left_editing (editor.ReadMemory address offset count) found s is = refl
-left_editing (editor.Disassemble address offset instruction_offset count) found s is = refl
+left_editing (editor.Disassemble address offset instruction_offset count operands) found s is = refl
 left_editing editor.LoadedSources found s is = refl
 left_editing (editor.GotoTargets path line) found s is = refl
 left_editing (editor.DataBreakpointInfo query) found s is = refl
@@ -123,14 +127,14 @@ command_ends_none other is = absurd cc
 
 editing_ends_none : (c : EditorCommand) → mid_search_editing c ≡ mid.Look
     → ends_question (asked.Editor c) ≡ false
-editing_ends_none (editor.Evaluate expression context.Watch) is = refl
-editing_ends_none (editor.Evaluate expression context.Other) is = refl
+editing_ends_none (editor.Evaluate expression context.Watch format) is = refl
+editing_ends_none (editor.Evaluate expression context.Other format) is = refl
 editing_ends_none (editor.Variables (variables.Scopes frame)) is = refl
-editing_ends_none (editor.Variables (variables.Variables reference start count)) is = refl
+editing_ends_none (editor.Variables (variables.Variables reference start count format)) is = refl
 editing_ends_none (editor.Variables (variables.Completions text column)) is = refl
 editing_ends_none editor.ExceptionInfo is = refl
 editing_ends_none (editor.ReadMemory address offset count) is = refl
-editing_ends_none (editor.Disassemble address offset instruction_offset count) is = refl
+editing_ends_none (editor.Disassemble address offset instruction_offset count operands) is = refl
 editing_ends_none editor.LoadedSources is = refl
 editing_ends_none (editor.GotoTargets path line) is = refl
 editing_ends_none (editor.DataBreakpointInfo query) is = refl

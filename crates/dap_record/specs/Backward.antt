@@ -70,7 +70,7 @@ back_line line None = if bytes_eq line (codes "back") then Some (back.Steps 1) e
 abbrev pub back_of : RequestContent → Option Back
 back_of (asked.Editor (editor.StepBack by)) = Some (back.Step by)
 back_of (asked.Editor editor.ReverseContinue) = Some back.Continue
-back_of (asked.Editor (editor.Evaluate line Repl)) = back_line line (behind (codes "back ") line)
+back_of (asked.Editor (editor.Evaluate line Repl format)) = back_line line (behind (codes "back ") line)
 back_of other = None
 
 -- ---- where they lead

@@ -24,14 +24,14 @@ mid_search_command command.Disconnect = mid.End
 mid_search_command other = mid.Other
 
 abbrev pub mid_search_editing : EditorCommand → MidSearch
-mid_search_editing (editor.Evaluate expression context.Watch) = mid.Look
-mid_search_editing (editor.Evaluate expression context.Other) = mid.Look
+mid_search_editing (editor.Evaluate expression context.Watch format) = mid.Look
+mid_search_editing (editor.Evaluate expression context.Other format) = mid.Look
 mid_search_editing (editor.Variables (variables.Scopes frame)) = mid.Look
-mid_search_editing (editor.Variables (variables.Variables reference start count)) = mid.Look
+mid_search_editing (editor.Variables (variables.Variables reference start count format)) = mid.Look
 mid_search_editing (editor.Variables (variables.Completions text column)) = mid.Look
 mid_search_editing editor.ExceptionInfo = mid.Look
 mid_search_editing (editor.ReadMemory address offset count) = mid.Look
-mid_search_editing (editor.Disassemble address offset instruction_offset count) = mid.Look
+mid_search_editing (editor.Disassemble address offset instruction_offset count operands) = mid.Look
 mid_search_editing editor.LoadedSources = mid.Look
 mid_search_editing (editor.GotoTargets path line) = mid.Look
 mid_search_editing (editor.DataBreakpointInfo query) = mid.Look

@@ -83,6 +83,7 @@ pub fn back_of(asked: &RequestContent) -> Option<Back>
             EditorCommand::Evaluate {
                 expression,
                 context: EvaluateContext::Repl,
+                format: _,
             },
         ) => back_line(expression.as_str()),
         _ => None,

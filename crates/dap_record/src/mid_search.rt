@@ -41,6 +41,7 @@ fn mid_search_editing(command: &EditorCommand) -> MidSearch
         EditorCommand::Evaluate {
             expression: _,
             context: EvaluateContext::Watch | EvaluateContext::Other,
+            format: _,
         }
         | EditorCommand::Variables(
             VariablesCommand::Scopes { .. }

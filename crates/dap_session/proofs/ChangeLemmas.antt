@@ -37,17 +37,19 @@ use Rattle.dap_board.specs.Commands.{Performed, IsLook as IsBoardLook, first_lin
 use Rattle.dap_board.specs.Commands.{step_request}
 use Rattle.dap_messages.specs.declared.message.EditorEvent.TheVariants as told
 use Rattle.dap_messages.specs.declared.message.UndefinedOpcode.{UndefinedOpcode}
+use Rattle.dap_messages.specs.declared.message.ValueFormat.{ValueFormat}
 use Rattle.dap_editor.specs.declared.request.EditorCommand.{EditorCommand}
 use Rattle.dap_editor.specs.declared.request.EditorCommand.TheVariants as editor
 use Rattle.dap_editor.specs.declared.request.EvaluateContext.{EvaluateContext}
 use Rattle.dap_editor.specs.declared.request.EvaluateContext.TheVariants as context
 use Rattle.dap_editor.specs.declared.request.RequestContent.{RequestContent}
 use Rattle.dap_editor.specs.declared.request.RequestContent.TheVariants as asked
-use Rattle.dap_editor.specs.declared.request.SignedOffset.{SignedOffset}
+use Rattle.dap_arguments.specs.declared.offset.SignedOffset.{SignedOffset}
 use Rattle.dap_look.specs.declared.change.SetValue.{SetValue}
 use Rattle.dap_editor.specs.declared.request.VariablesCommand.{VariablesCommand}
-use Rattle.dap_editor.specs.declared.request.VariablesCommand.TheVariants as variables
-use Rattle.dap_variables.specs.Answers.{value_set}
+use Rattle.dap_variables.specs.declared.answer.VariablesAnswer.{VariablesAnswer}
+use Rattle.dap_variables.specs.declared.answer.VariablesAnswer.TheVariants.{Outcome, Change}
+use Rattle.dap_variables.specs.Answers.{variables_answer}
 use Rattle.dap_points.specs.Points.{has_place}
 use Rattle.dap_program.specs.declared.messages.FollowUp.{FollowUp}
 use Rattle.dap_program.specs.declared.messages.FollowUp.TheVariants as follow
@@ -63,6 +65,7 @@ use Rattle.dap_launch.specs.declared.program.Program.{Program}
 use Rattle.dap_launch.specs.Lives.{in_phase, is_live, end_of, exception_of}
 use Rattle.dap_launch.specs.Programs.{ProgramLists, placed_on}
 use Rattle.dap_session.specs.States.{SessionState}
+use Rattle.dap_session.proofs.ShownLemmas.{handled_shown}
 use Rattle.dap_session.specs.Turns.{Replied, change_follow}
 use Rattle.dap_launch.specs.Programs.{program_at}
 use Rattle.dap_session.specs.Breakpoints.{armed_where}
@@ -279,38 +282,39 @@ reply_told : (p : Performed) (s : SessionState) → Tells s (command_reply p s)
 reply_told (Ok (b, board)) s = λ w. inr (told_change s w.supported w.live)
 reply_told (Err f) s = λ w. inl (same s.board)
 
-byte_told : (to : ℕ → DapCommand) (o : Option ℕ) (expression : Text) (s : SessionState)
-    → Tells s (prompting (byte_command to o) expression s)
-byte_told to None expression s = λ w. inl (same s.board)
-byte_told to (Some n) expression s = reply_told (command_result (to n) s.board) s
+byte_told : (to : ℕ → DapCommand) (o : Option ℕ) (expression : Text) (format : ValueFormat) (s : SessionState)
+    → Tells s (prompting (byte_command to o) expression format s)
+byte_told to None expression format s = λ w. inl (same s.board)
+byte_told to (Some n) expression format s = reply_told (command_result (to n) s.board) s
 
-prompt_told : (switches press line : Option Text) (expression : Text) (s : SessionState)
-    → Tells s (prompting (command_with switches press line) expression s)
-prompt_told (Some n) press line expression s = byte_told _ (byte_spelled n) expression s
-prompt_told None (Some n) line expression s = byte_told _ (byte_spelled n) expression s
-prompt_told None None (Some line) expression s =
+prompt_told : (switches press line : Option Text) (expression : Text)
+    (format : ValueFormat) (s : SessionState)
+    → Tells s (prompting (command_with switches press line) expression format s)
+prompt_told (Some n) press line expression format s = byte_told _ (byte_spelled n) expression format s
+prompt_told None (Some n) line expression format s = byte_told _ (byte_spelled n) expression format s
+prompt_told None None (Some line) expression format s =
     reply_told (command_result (command.BoardType (line ++ codes "\n")) s.board) s
-prompt_told None None None expression s = λ w. inl (same s.board)
+prompt_told None None None expression format s = λ w. inl (same s.board)
 
-evaluated : (expression : Text) (c : EvaluateContext) (s : SessionState) → Tells s (evaluating expression c s)
-evaluated expression context.Repl s =
+evaluated : (expression : Text) (c : EvaluateContext) (format : ValueFormat) (s : SessionState)
+    → Tells s (evaluating expression c format s)
+evaluated expression context.Repl format s =
     prompt_told (behind (codes "switches ") expression) (behind (codes "press ") expression)
-    (behind (codes "type ") expression) expression s
-evaluated expression context.Watch s = λ w. inl (same s.board)
-evaluated expression context.Other s = λ w. inl (same s.board)
+    (behind (codes "type ") expression) expression format s
+evaluated expression context.Watch format s = λ w. inl (same s.board)
+evaluated expression context.Other format s = λ w. inl (same s.board)
 
 value_changed : (r : Result SetValue Text) (s : SessionState) → Tells s (setting r s)
 value_changed (Ok set) s = λ w. inr (told_change s w.supported w.live)
 value_changed (Err message) s = λ w. inl (same s.board)
 
-handled_by : (o : Option (Result SetValue Text)) (c : VariablesCommand) (s : SessionState)
-    → Tells s (handling_by o c s)
-handled_by (Some r) c s =
+handled_by : (a : VariablesAnswer) (s : SessionState) → Tells s (handling_by a s)
+handled_by (Outcome outcome) s = λ w. inl (same s.board)
+handled_by (Change r) s =
     either (is_stopped s.board.run) s _ _ (value_changed r s) (λ w. inl (same s.board))
-handled_by None c s = λ w. inl (same s.board)
 
 handled : (c : VariablesCommand) (s : SessionState) → Tells s (handling c s)
-handled c s = handled_by (value_set c s.board) c s
+handled c s = handled_by (variables_answer c s.board) s
 
 -- ---- commands of editors
 
@@ -332,7 +336,7 @@ gone : (target : ℕ) (s : SessionState) → Tells s (going_to target s)
 gone target s = either (is_stopped s.board.run) s _ _ (λ w. inr refl) (λ w. inl (same s.board))
 
 edit_told : (c : EditorCommand) (s : SessionState) → Tells s (editing c s)
-edit_told (editor.Initialize supported) s =
+edit_told (editor.Initialize supported numbering) s =
     either s.settings.is_initialized s _ _ (λ w. inl (same s.board)) (λ w. inl (same s.board))
 edit_told editor.Terminate s = λ w. absurd (dead_over s.settings.program w.live w.program)
 edit_told (editor.SetBreakpoints path lines) s =
@@ -341,7 +345,7 @@ edit_told (editor.SetBreakpoints path lines) s =
 edit_told (editor.SetFunctionBreakpoints functions) s =
     λ w. inl (kept_where s.settings.program _ s.board)
 edit_told editor.ExceptionInfo s = explained (exception_of s.settings.program) s
-edit_told (editor.Evaluate expression c) s = evaluated expression c s
+edit_told (editor.Evaluate expression c format) s = evaluated expression c format s
 edit_told (editor.Variables c) s = handled c s
 edit_told (editor.WriteMemory address offset bytes) s = written address offset bytes s
 edit_told (editor.Goto target) s = gone target s
@@ -380,11 +384,7 @@ quiet_done (Ok (b, board)) s = refl
 quiet_done (Err f) s = refl
 
 quiet_shown : (c : VariablesCommand) (s : SessionState) → IsShown c → events_of (handling c s).follow ≡ []
-quiet_shown (variables.Scopes frame) s is = refl
-quiet_shown (variables.Variables reference start count) s is = refl
-quiet_shown (variables.Completions text column) s is = refl
-quiet_shown (variables.SetVariable reference name value) s is = absurd is
-quiet_shown (variables.SetExpression expression value) s is = absurd is
+quiet_shown c s is = ap (λ (r : Replied). events_of r.follow) (handled_shown c s is).1
 
 quiet_explained : (o : Option UndefinedOpcode) (s : SessionState) → events_of (explaining o s).follow ≡ []
 quiet_explained None s = refl
@@ -403,13 +403,14 @@ quiet_command other s is = absurd is
 quiet_asking : (a : RequestContent) (found : Option FileText) (s : SessionState) → IsLook a
     → (asking a found s).events ≡ []
 quiet_asking (asked.Board c) found s is = quiet_command c s is
-quiet_asking (asked.Editor (editor.Evaluate expression context.Watch)) found s is = refl
-quiet_asking (asked.Editor (editor.Evaluate expression context.Other)) found s is = refl
+quiet_asking (asked.Editor (editor.Evaluate expression context.Watch format)) found s is = refl
+quiet_asking (asked.Editor (editor.Evaluate expression context.Other format)) found s is = refl
 quiet_asking (asked.Editor (editor.Variables c)) found s is = quiet_shown c s is
 quiet_asking (asked.Editor editor.ExceptionInfo) found s is =
     quiet_explained (exception_of s.settings.program) s
 quiet_asking (asked.Editor (editor.ReadMemory address offset count)) found s is = refl
-quiet_asking (asked.Editor (editor.Disassemble address offset instruction_offset count)) found s is = refl
+quiet_asking (asked.Editor (editor.Disassemble address offset instruction_offset count operands)) found s
+    is = refl
 quiet_asking (asked.Editor editor.LoadedSources) found s is = refl
 quiet_asking (asked.Editor (editor.GotoTargets path line)) found s is = refl
 quiet_asking (asked.Editor (editor.DataBreakpointInfo query)) found s is = refl

@@ -32,19 +32,22 @@ use Rattle.dap_board.specs.Bodies.{body_of}
 use Rattle.dap_board.specs.Commands.{Performed, first_line, command_result, with_body, step_request}
 use Rattle.dap_messages.specs.declared.message.EditorStop.TheVariants.{Board as AtBoard}
 use Rattle.dap_messages.specs.declared.message.UndefinedOpcode.{UndefinedOpcode}
+use Rattle.dap_messages.specs.declared.message.ValueFormat.{ValueFormat}
 use Rattle.dap_editor.specs.declared.request.EditorCommand.{EditorCommand}
 use Rattle.dap_editor.specs.declared.request.EditorCommand.TheVariants as editor
 use Rattle.dap_editor.specs.declared.request.EvaluateContext.{EvaluateContext}
 use Rattle.dap_editor.specs.declared.request.EvaluateContext.TheVariants as context
 use Rattle.dap_editor.specs.declared.request.RequestContent.{RequestContent}
 use Rattle.dap_editor.specs.declared.request.RequestContent.TheVariants as asked
-use Rattle.dap_editor.specs.declared.request.SignedOffset.{SignedOffset}
+use Rattle.dap_arguments.specs.declared.offset.SignedOffset.{SignedOffset}
 use Rattle.dap_history.specs.declared.input.Input.{Input}
 use Rattle.dap_history.specs.declared.input.Input.TheVariants as input
 use Rattle.dap_history.specs.Runs.{board_of, after_input}
 use Rattle.dap_look.specs.declared.change.SetValue.{SetValue}
 use Rattle.dap_editor.specs.declared.request.VariablesCommand.{VariablesCommand}
-use Rattle.dap_variables.specs.Answers.{value_set}
+use Rattle.dap_variables.specs.declared.answer.VariablesAnswer.{VariablesAnswer}
+use Rattle.dap_variables.specs.declared.answer.VariablesAnswer.TheVariants.{Outcome, Change}
+use Rattle.dap_variables.specs.Answers.{change_in, value_set, variables_answer}
 use Rattle.dap_points.specs.Points.{has_place}
 use Rattle.dap_program.specs.declared.messages.FollowUp.{FollowUp}
 use Rattle.dap_program.specs.declared.messages.FollowUp.TheVariants as follow
@@ -248,20 +251,20 @@ command_made (command.BoardAliases aliases) s = aliases_made s.board.run _ (chan
 
 -- ---- evaluations
 
-switches_made : (o : Option ℕ) (expression : Text) (s : SessionState)
+switches_made : (o : Option ℕ) (expression : Text) (format : ValueFormat) (s : SessionState)
     → Makes (prompt_input (byte_command (λ value. command.BoardSwitches value) o) s.board.machine.regs) s
-    (prompting (byte_command (λ value. command.BoardSwitches value) o) expression s)
+    (prompting (byte_command (λ value. command.BoardSwitches value) o) expression format s)
 unfolding command_result
-switches_made None expression s = λ l. same s.board
-switches_made (Some n) expression s =
+switches_made None expression format s = λ l. same s.board
+switches_made (Some n) expression format s =
     reply_made (λ _. body.Empty) (result_of (event.Switches n) s.board) s (input.Switches n) refl
 
-press_made : (o : Option ℕ) (expression : Text) (s : SessionState)
+press_made : (o : Option ℕ) (expression : Text) (format : ValueFormat) (s : SessionState)
     → Makes (prompt_input (byte_command (λ vector. command.BoardPress vector) o) s.board.machine.regs) s
-    (prompting (byte_command (λ vector. command.BoardPress vector) o) expression s)
+    (prompting (byte_command (λ vector. command.BoardPress vector) o) expression format s)
 unfolding command_result
-press_made None expression s = λ l. same s.board
-press_made (Some n) expression s =
+press_made None expression format s = λ l. same s.board
+press_made (Some n) expression format s =
     reply_made (λ _. body.Empty) (result_of (event.Press n) s.board) s (input.Press n) refl
 
 type_made : (text : Text) (s : SessionState)
@@ -272,21 +275,23 @@ type_made text s =
     reply_made (λ _. body.Empty) (result_of (event.Typed (latin_bytes text)) s.board) s
     (input.Typed (latin_bytes text)) refl
 
-prompt_made : (switches press line : Option Text) (expression : Text) (s : SessionState)
+prompt_made : (switches press line : Option Text) (expression : Text)
+    (format : ValueFormat) (s : SessionState)
     → Makes (prompt_input (command_with switches press line) s.board.machine.regs) s
-    (prompting (command_with switches press line) expression s)
-prompt_made (Some n) press line expression s = switches_made (byte_spelled n) expression s
-prompt_made None (Some n) line expression s = press_made (byte_spelled n) expression s
-prompt_made None None (Some line) expression s = type_made (line ++ codes "\n") s
-prompt_made None None None expression s = λ l. same s.board
+    (prompting (command_with switches press line) expression format s)
+prompt_made (Some n) press line expression format s = switches_made (byte_spelled n) expression format s
+prompt_made None (Some n) line expression format s = press_made (byte_spelled n) expression format s
+prompt_made None None (Some line) expression format s = type_made (line ++ codes "\n") s
+prompt_made None None None expression format s = λ l. same s.board
 
-evaluated_made : (expression : Text) (c : EvaluateContext) (s : SessionState)
-    → Makes (input_of (asked.Editor (editor.Evaluate expression c)) s.board) s (evaluating expression c s)
-evaluated_made expression context.Repl s =
+evaluated_made : (expression : Text) (c : EvaluateContext) (format : ValueFormat) (s : SessionState)
+    → Makes (input_of (asked.Editor (editor.Evaluate expression c format)) s.board) s
+    (evaluating expression c format s)
+evaluated_made expression context.Repl format s =
     prompt_made (behind (codes "switches ") expression) (behind (codes "press ") expression)
-    (behind (codes "type ") expression) expression s
-evaluated_made expression context.Watch s = λ l. same s.board
-evaluated_made expression context.Other s = λ l. same s.board
+    (behind (codes "type ") expression) expression format s
+evaluated_made expression context.Watch format s = λ l. same s.board
+evaluated_made expression context.Other format s = λ l. same s.board
 
 -- ---- variables
 
@@ -294,16 +299,16 @@ setting_made : (r : Result SetValue Text) (s : SessionState) → Makes (set_inpu
 setting_made (Ok set) s = λ l. same (after_input set.input s.board)
 setting_made (Err message) s = λ l. absurd (true≢false (sym l.done))
 
-handled_by_made : (o : Option (Result SetValue Text)) (c : VariablesCommand) (s : SessionState)
-    → Makes (set_input o) s (handling_by o c s)
-handled_by_made (Some r) c s =
+handled_by_made : (a : VariablesAnswer) (s : SessionState)
+    → Makes (set_input (change_in a)) s (handling_by a s)
+handled_by_made (Outcome outcome) s = λ l. same s.board
+handled_by_made (Change r) s =
     either (is_stopped s.board.run) (set_input (Some r)) s _ _ (setting_made r s)
     (λ l. absurd (true≢false (sym l.done)))
-handled_by_made None c s = λ l. same s.board
 
 handled_made : (c : VariablesCommand) (s : SessionState)
     → Makes (set_input (value_set c s.board)) s (handling c s)
-handled_made c s = handled_by_made (value_set c s.board) c s
+handled_made c s = handled_by_made (variables_answer c s.board) s
 
 -- ---- commands of editors
 
@@ -334,7 +339,7 @@ memory_made : (c : EditorCommand) (s : SessionState)
     → Makes (input_of (asked.Editor c) s.board) s (editing_memory c s)
 memory_made (editor.ReadMemory address offset count) s = λ l. same s.board
 memory_made (editor.WriteMemory address offset bytes) s = writing_made address offset bytes s
-memory_made (editor.Disassemble address offset instruction_offset count) s = λ l. same s.board
+memory_made (editor.Disassemble address offset instruction_offset count operands) s = λ l. same s.board
 memory_made (editor.GotoTargets path line) s = λ l. same s.board
 memory_made (editor.Goto target) s = goto_made target s
 memory_made (editor.Variables c) s = handled_made c s
@@ -342,7 +347,7 @@ memory_made other s = λ l. absurd (true≢false (sym l.done))
 
 edit_made : (c : EditorCommand) (s : SessionState)
     → Makes (input_of (asked.Editor c) s.board) s (editing c s)
-edit_made (editor.Initialize supported) s =
+edit_made (editor.Initialize supported numbering) s =
     either s.settings.is_initialized None s _ _ (λ l. same s.board) (λ l. same s.board)
 edit_made editor.Terminate s =
     λ l. absurd (over_lasts s.settings.program (begun_before (terminating s).state l.after))
@@ -356,7 +361,7 @@ edit_made (editor.SetDataBreakpoints breakpoints) s = λ l. same s.board
 edit_made (editor.SetInstructionBreakpoints breakpoints) s = λ l. same s.board
 edit_made (editor.BreakpointLocations path first last) s = λ l. same s.board
 edit_made editor.ExceptionInfo s = explained_made (exception_of s.settings.program) s
-edit_made (editor.Evaluate expression c) s = evaluated_made expression c s
+edit_made (editor.Evaluate expression c format) s = evaluated_made expression c format s
 edit_made (editor.SetExceptionBreakpoints filters) s = λ l. same s.board
 edit_made editor.LoadedSources s = λ l. same s.board
 edit_made other s = memory_made other s

@@ -19,6 +19,7 @@ use Rattle.lab_core.specs.Board.{Board}
 use Rattle.lab_core.specs.Slices.{traffic_of}
 use Rattle.dap_messages.specs.declared.message.EditorEvent.{EditorEvent}
 use Rattle.dap_messages.specs.declared.message.PlacedBreakpoint.{PlacedBreakpoint}
+use Rattle.dap_messages.specs.declared.message.ValueFormat.{ValueFormat}
 use Rattle.dap_editor.specs.declared.request.RequestContent.{RequestContent}
 use Rattle.dap_editor.specs.declared.request.RequestContent.TheVariants as asked
 use Rattle.dap_editor.specs.declared.request.EditorCommand.TheVariants as editor
@@ -278,14 +279,16 @@ shown_played (input ∷ inputs) s =
 
 -- ---- looks
 
-kept_unless : (o : Option Text) (expression : Text) (found : Option FileText) (s : SessionState)
-    → (asking_unless o (asked.Editor (editor.Evaluate expression context.Other)) found s).state.board
+kept_unless : (o : Option Text) (expression : Text)
+    (format : ValueFormat) (found : Option FileText) (s : SessionState)
+    → (asking_unless o (asked.Editor (editor.Evaluate expression context.Other format)) found s).state.board
     ≡ s.board
-kept_unless (Some text) expression found s = refl
-kept_unless None expression found s = refl
+kept_unless (Some text) expression format found s = refl
+kept_unless None expression format found s = refl
 
-pub kept_look : (expression : Text) (found : Option FileText) (s : SessionState)
-    → (turn (asked.Editor (editor.Evaluate expression context.Other)) found s).state.board ≡ s.board
+pub kept_look : (expression : Text) (format : ValueFormat) (found : Option FileText) (s : SessionState)
+    → (turn (asked.Editor (editor.Evaluate expression context.Other format)) found s).state.board ≡ s.board
 unfolding turn
-kept_look expression found s =
-    kept_unless (objection (asked.Editor (editor.Evaluate expression context.Other)) s) expression found s
+kept_look expression format found s =
+    kept_unless (objection (asked.Editor (editor.Evaluate expression context.Other format)) s) expression
+    format found s

@@ -14,3 +14,4 @@ pub mod ChangeLemmas
 pub mod InputLemmas
 pub mod SearchLemmas
 pub mod ArmLemmas
+pub mod ShownLemmas

@@ -8,6 +8,7 @@ use Rattle.dap_talk.specs.declared.command.DapCommand.{DapCommand}
 use Rattle.dap_talk.specs.declared.command.DapCommand.TheVariants as command
 use Rattle.dap_board.specs.Commands.{Performed, command_result}
 use Rattle.dap_messages.specs.declared.message.UndefinedOpcode.{UndefinedOpcode}
+use Rattle.dap_messages.specs.declared.message.ValueFormat.{ValueFormat}
 use Rattle.dap_editor.specs.declared.request.EditorCommand.{EditorCommand}
 use Rattle.dap_editor.specs.declared.request.EditorCommand.TheVariants as editor
 use Rattle.dap_editor.specs.declared.request.LineBreakpoint.{LineBreakpoint}
@@ -16,10 +17,12 @@ use Rattle.dap_editor.specs.declared.request.EvaluateContext.TheVariants as cont
 use Rattle.dap_editor.specs.declared.request.Launch.{Launch as LaunchOf}
 use Rattle.dap_editor.specs.declared.request.RequestContent.{RequestContent}
 use Rattle.dap_editor.specs.declared.request.RequestContent.TheVariants as asked
-use Rattle.dap_editor.specs.declared.request.SignedOffset.{SignedOffset}
+use Rattle.dap_arguments.specs.declared.offset.SignedOffset.{SignedOffset}
 use Rattle.dap_look.specs.declared.change.SetValue.{SetValue}
 use Rattle.dap_editor.specs.declared.request.VariablesCommand.{VariablesCommand}
-use Rattle.dap_variables.specs.Answers.{value_set}
+use Rattle.dap_variables.specs.declared.answer.VariablesAnswer.{VariablesAnswer}
+use Rattle.dap_variables.specs.declared.answer.VariablesAnswer.TheVariants.{Outcome, Change}
+use Rattle.dap_variables.specs.Answers.{variables_answer}
 use Rattle.dap_points.specs.Points.{has_place}
 use Rattle.dap_program.specs.declared.load.LoadFault.{LoadFault}
 use Rattle.dap_program.specs.declared.messages.FollowUp.{FollowUp}
@@ -115,26 +118,27 @@ reply_left : (p : Performed) (s : SessionState) → Refuses s (command_reply p s
 reply_left (Ok (b, board)) s = λ text is. absurd cc
 reply_left (Err f) s = λ text is. same s
 
-byte_left : (to : ℕ → DapCommand) (o : Option ℕ) (expression : Text) (s : SessionState)
-    → Refuses s (prompting (byte_command to o) expression s)
-byte_left to None expression s = λ text is. same s
-byte_left to (Some n) expression s = reply_left (command_result (to n) s.board) s
+byte_left : (to : ℕ → DapCommand) (o : Option ℕ) (expression : Text) (format : ValueFormat) (s : SessionState)
+    → Refuses s (prompting (byte_command to o) expression format s)
+byte_left to None expression format s = λ text is. same s
+byte_left to (Some n) expression format s = reply_left (command_result (to n) s.board) s
 
-prompt_left : (switches press line : Option Text) (expression : Text) (s : SessionState)
-    → Refuses s (prompting (command_with switches press line) expression s)
-prompt_left (Some n) press line expression s = byte_left _ (byte_spelled n) expression s
-prompt_left None (Some n) line expression s = byte_left _ (byte_spelled n) expression s
-prompt_left None None (Some line) expression s =
+prompt_left : (switches press line : Option Text) (expression : Text)
+    (format : ValueFormat) (s : SessionState)
+    → Refuses s (prompting (command_with switches press line) expression format s)
+prompt_left (Some n) press line expression format s = byte_left _ (byte_spelled n) expression format s
+prompt_left None (Some n) line expression format s = byte_left _ (byte_spelled n) expression format s
+prompt_left None None (Some line) expression format s =
     reply_left (command_result (command.BoardType (line ++ codes "\n")) s.board) s
-prompt_left None None None expression s = λ text is. same s
+prompt_left None None None expression format s = λ text is. same s
 
-evaluated : (expression : Text) (c : EvaluateContext) (s : SessionState)
-    → Refuses s (evaluating expression c s)
-evaluated expression context.Repl s =
+evaluated : (expression : Text) (c : EvaluateContext) (format : ValueFormat) (s : SessionState)
+    → Refuses s (evaluating expression c format s)
+evaluated expression context.Repl format s =
     prompt_left (behind (codes "switches ") expression) (behind (codes "press ") expression)
-    (behind (codes "type ") expression) expression s
-evaluated expression context.Watch s = λ text is. same s
-evaluated expression context.Other s = λ text is. same s
+    (behind (codes "type ") expression) expression format s
+evaluated expression context.Watch format s = λ text is. same s
+evaluated expression context.Other format s = λ text is. same s
 
 -- ---- variables
 
@@ -142,10 +146,9 @@ setting_left : (r : Result SetValue Text) (s : SessionState) → Refuses s (sett
 setting_left (Ok set) s = λ text is. absurd cc
 setting_left (Err message) s = λ text is. same s
 
-handled_by : (o : Option (Result SetValue Text)) (c : VariablesCommand) (s : SessionState)
-    → Refuses s (handling_by o c s)
-handled_by (Some r) c s = either (is_stopped s.board.run) s _ _ (setting_left r s) (λ text is. same s)
-handled_by None c s = λ text is. same s
+handled_by : (a : VariablesAnswer) (s : SessionState) → Refuses s (handling_by a s)
+handled_by (Outcome outcome) s = λ text is. same s
+handled_by (Change r) s = either (is_stopped s.board.run) s _ _ (setting_left r s) (λ text is. same s)
 
 -- ---- commands of editors
 
@@ -167,7 +170,7 @@ gone : (target : ℕ) (s : SessionState) → Refuses s (going_to target s)
 gone target s = either (is_stopped s.board.run) s _ _ (λ text is. absurd cc) (λ text is. same s)
 
 edit_left : (c : EditorCommand) (s : SessionState) → Refuses s (editing c s)
-edit_left (editor.Initialize supported) s =
+edit_left (editor.Initialize supported numbering) s =
     either s.settings.is_initialized s _ _ (λ text is. same s) (λ text is. absurd cc)
 edit_left editor.Terminate s = λ text is. absurd cc
 edit_left (editor.SetBreakpoints path ls) s = lines path ls s
@@ -178,10 +181,10 @@ edit_left (editor.SetInstructionBreakpoints breakpoints) s = λ text is. absurd 
 edit_left (editor.BreakpointLocations path first last) s = λ text is. absurd cc
 edit_left (editor.SetExceptionBreakpoints filters) s = λ text is. absurd cc
 edit_left editor.ExceptionInfo s = explained (exception_of s.settings.program) s
-edit_left (editor.Evaluate expression c) s = evaluated expression c s
-edit_left (editor.Variables c) s = handled_by (value_set c s.board) c s
+edit_left (editor.Evaluate expression c format) s = evaluated expression c format s
+edit_left (editor.Variables c) s = handled_by (variables_answer c s.board) s
 edit_left (editor.ReadMemory address offset count) s = λ text is. absurd cc
-edit_left (editor.Disassemble address offset instruction_offset count) s = λ text is. absurd cc
+edit_left (editor.Disassemble address offset instruction_offset count operands) s = λ text is. absurd cc
 edit_left editor.LoadedSources s = λ text is. absurd cc
 edit_left (editor.WriteMemory address offset bytes) s = written address offset bytes s
 edit_left (editor.GotoTargets path line) s = λ text is. absurd cc

@@ -142,7 +142,7 @@ goes_command (command.BoardAliases aliases) s reached =
     (kept_without s.board.run s.board (Ok (answer.BoardSet, _)) (record { run = refl; is_attached = refl }))
 
 goes_editing : (c : EditorCommand) (s : SessionState) → IsReached (seen s) → GoesBy s (editing c s)
-goes_editing (editor.Initialize supported) s reached =
+goes_editing (editor.Initialize supported numbering) s reached =
     goes_either s.settings.is_initialized s _ _ (still s s reached refl)
     (still s (set_initialized supported s) reached refl)
 goes_editing editor.Terminate s reached = goes_terminating s reached
@@ -156,7 +156,7 @@ goes_editing (editor.SetExceptionBreakpoints filters) s reached =
     still s (with_filters filters s) reached refl
 goes_editing (editor.WriteMemory address offset bytes) s reached = goes_writing address offset bytes s reached
 goes_editing (editor.Goto target) s reached = goes_to target s reached
-goes_editing (editor.Evaluate expression c) s reached = goes_evaluating expression c s reached
+goes_editing (editor.Evaluate expression c format) s reached = goes_evaluating expression c format s reached
 goes_editing (editor.Variables c) s reached = goes_handling c s reached
 goes_editing editor.ExceptionInfo s reached = goes_explaining (exception_of s.settings.program) s reached
 goes_editing other s reached = still s s reached refl

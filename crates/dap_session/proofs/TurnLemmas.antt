@@ -22,15 +22,18 @@ use Rattle.dap_talk.specs.declared.command.DapCommand.TheVariants as command
 use Rattle.dap_board.specs.Bodies.{body_of}
 use Rattle.dap_board.specs.Commands.{command_result, with_body}
 use Rattle.dap_messages.specs.declared.message.EditorStop.TheVariants.{Board as AtBoard, Goto}
+use Rattle.dap_messages.specs.declared.message.ValueFormat.{ValueFormat}
 use Rattle.dap_editor.specs.declared.request.LineBreakpoint.{LineBreakpoint}
 use Rattle.dap_editor.specs.declared.request.FunctionBreakpoint.{FunctionBreakpoint}
 use Rattle.dap_editor.specs.declared.request.EvaluateContext.{EvaluateContext}
 use Rattle.dap_editor.specs.declared.request.EvaluateContext.TheVariants as context
-use Rattle.dap_editor.specs.declared.request.SignedOffset.{SignedOffset}
+use Rattle.dap_arguments.specs.declared.offset.SignedOffset.{SignedOffset}
 use Rattle.dap_look.specs.declared.change.SetValue.{SetValue}
 use Rattle.dap_editor.specs.declared.request.VariablesCommand.{VariablesCommand}
 use Rattle.dap_history.specs.Runs.{after_input}
-use Rattle.dap_variables.specs.Answers.{value_set}
+use Rattle.dap_variables.specs.declared.answer.VariablesAnswer.{VariablesAnswer}
+use Rattle.dap_variables.specs.declared.answer.VariablesAnswer.TheVariants.{Outcome, Change}
+use Rattle.dap_variables.specs.Answers.{variables_answer}
 use Rattle.dap_points.specs.Points.{has_place}
 use Rattle.dap_program.specs.declared.messages.FollowUp.TheVariants as follow
 use Rattle.dap_program.specs.Boards.{after}
@@ -118,43 +121,48 @@ goes_command_reply to_body (Ok (a, b)) s reached kept =
     changed s (with_board b s) reached (seen_board b s kept)
 goes_command_reply to_body (Err f) s reached kept = still s s reached refl
 
-goes_switches : (o : Option ℕ) (expression : Text) (s : SessionState) → IsReached (seen s)
-    → GoesBy s (prompting (byte_command (λ value. command.BoardSwitches value) o) expression s)
+goes_switches : (o : Option ℕ) (expression : Text) (format : ValueFormat) (s : SessionState)
+    → IsReached (seen s)
+    → GoesBy s (prompting (byte_command (λ value. command.BoardSwitches value) o) expression format s)
 unfolding command_result
-goes_switches None expression s reached = still s s reached refl
-goes_switches (Some value) expression s reached =
+goes_switches None expression format s reached = still s s reached refl
+goes_switches (Some value) expression format s reached =
     goes_command_reply (λ _. body.Empty) (result_of (event.Switches value) s.board) s reached
     (record { run = refl; is_attached = refl })
 
-goes_press : (o : Option ℕ) (expression : Text) (s : SessionState) → IsReached (seen s)
-    → GoesBy s (prompting (byte_command (λ vector. command.BoardPress vector) o) expression s)
+goes_press : (o : Option ℕ) (expression : Text) (format : ValueFormat) (s : SessionState) → IsReached (seen s)
+    → GoesBy s (prompting (byte_command (λ vector. command.BoardPress vector) o) expression format s)
 unfolding command_result
-goes_press None expression s reached = still s s reached refl
-goes_press (Some vector) expression s reached =
+goes_press None expression format s reached = still s s reached refl
+goes_press (Some vector) expression format s reached =
     goes_command_reply (λ _. body.Empty) (result_of (event.Press vector) s.board) s reached
     (kept_press vector s.board)
 
-goes_type : (text expression : Text) (s : SessionState) → IsReached (seen s)
+goes_type : (text : Text) (s : SessionState) → IsReached (seen s)
     → GoesBy s (command_reply (command_result (command.BoardType text) s.board) s)
 unfolding command_result
-goes_type text expression s reached =
+goes_type text s reached =
     goes_command_reply (λ _. body.Empty) (result_of (event.Typed (latin_bytes text)) s.board) s reached
     (record { run = refl; is_attached = refl })
 
-goes_prompt : (switches press line : Option Text) (expression : Text) (s : SessionState) → IsReached (seen s)
-    → GoesBy s (prompting (command_with switches press line) expression s)
-goes_prompt (Some n) press line expression s reached = goes_switches (byte_spelled n) expression s reached
-goes_prompt None (Some n) line expression s reached = goes_press (byte_spelled n) expression s reached
-goes_prompt None None (Some line) expression s reached = goes_type (line ++ codes "\n") expression s reached
-goes_prompt None None None expression s reached = still s s reached refl
+goes_prompt : (switches press line : Option Text) (expression : Text)
+    (format : ValueFormat) (s : SessionState) → IsReached (seen s)
+    → GoesBy s (prompting (command_with switches press line) expression format s)
+goes_prompt (Some n) press line expression format s reached =
+    goes_switches (byte_spelled n) expression format s reached
+goes_prompt None (Some n) line expression format s reached =
+    goes_press (byte_spelled n) expression format s reached
+goes_prompt None None (Some line) expression format s reached = goes_type (line ++ codes "\n") s reached
+goes_prompt None None None expression format s reached = still s s reached refl
 
-pub goes_evaluating : (expression : Text) (c : EvaluateContext) (s : SessionState) → IsReached (seen s)
-    → GoesBy s (evaluating expression c s)
-goes_evaluating expression context.Repl s reached =
+pub goes_evaluating : (expression : Text) (c : EvaluateContext) (format : ValueFormat)
+    (s : SessionState) → IsReached (seen s)
+    → GoesBy s (evaluating expression c format s)
+goes_evaluating expression context.Repl format s reached =
     goes_prompt (behind (codes "switches ") expression) (behind (codes "press ") expression)
-    (behind (codes "type ") expression) expression s reached
-goes_evaluating expression context.Watch s reached = still s s reached refl
-goes_evaluating expression context.Other s reached = still s s reached refl
+    (behind (codes "type ") expression) expression format s reached
+goes_evaluating expression context.Watch format s reached = still s s reached refl
+goes_evaluating expression context.Other format s reached = still s s reached refl
 
 goes_setting : (r : Result SetValue Text) (s : SessionState) → IsReached (seen s) → GoesBy s (setting r s)
 goes_setting (Ok set) s reached =
@@ -162,14 +170,13 @@ goes_setting (Ok set) s reached =
     changed s (with_board b s) reached (seen_board b s (kept_input set.input s.board))
 goes_setting (Err message) s reached = still s s reached refl
 
-goes_handling_by : (o : Option (Result SetValue Text)) (c : VariablesCommand) (s : SessionState)
-    → IsReached (seen s) → GoesBy s (handling_by o c s)
-goes_handling_by (Some r) c s reached =
+goes_handling_by : (a : VariablesAnswer) (s : SessionState) → IsReached (seen s) → GoesBy s (handling_by a s)
+goes_handling_by (Outcome outcome) s reached = still s s reached refl
+goes_handling_by (Change r) s reached =
     goes_either (is_stopped s.board.run) s _ _ (goes_setting r s reached) (still s s reached refl)
-goes_handling_by None c s reached = still s s reached refl
 
 pub goes_handling : (c : VariablesCommand) (s : SessionState) → IsReached (seen s) → GoesBy s (handling c s)
-goes_handling c s reached = goes_handling_by (value_set c s.board) c s reached
+goes_handling c s reached = goes_handling_by (variables_answer c s.board) s reached
 
 pub goes_lines : (path : Text) (lines : List LineBreakpoint) (s : SessionState) → IsReached (seen s)
     → GoesBy s (setting_lines path lines s)

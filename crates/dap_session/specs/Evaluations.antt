@@ -1,6 +1,6 @@
 -- Evaluations, and variables and their changes (Debug Adapter Protocol, `evaluate`, `scopes`, `variables`,
 -- `setVariable`, `setExpression` and `completions`).
-use Rattle.std.specs.Prelude.{Option, Some, None, Result, Ok, Err, codes, if◌then◌else◌}
+use Rattle.std.specs.Prelude.{Result, Ok, Err, codes, if◌then◌else◌}
 use Rattle.base_text.specs.Bytes.{Text}
 use Rattle.dap_board.specs.Commands.{Performed, command_result}
 use Rattle.dap_editor.specs.declared.request.EvaluateContext.{EvaluateContext}
@@ -8,9 +8,12 @@ use Rattle.dap_editor.specs.declared.request.EvaluateContext.TheVariants.{Repl, 
 use Rattle.dap_editor.specs.declared.request.VariablesCommand.{VariablesCommand}
 use Rattle.dap_history.specs.Runs.{after_input}
 use Rattle.dap_look.specs.declared.change.SetValue.{SetValue}
+use Rattle.dap_messages.specs.declared.message.ValueFormat.{ValueFormat}
 use Rattle.dap_messages.specs.declared.message.EditorBody.TheVariants.{Evaluation, Value}
 use Rattle.dap_messages.specs.declared.message.EditorOutcome.{EditorOutcome}
-use Rattle.dap_variables.specs.Answers.{evaluation, prompt_evaluation, variables_outcome, value_set}
+use Rattle.dap_variables.specs.declared.answer.VariablesAnswer.{VariablesAnswer}
+use Rattle.dap_variables.specs.declared.answer.VariablesAnswer.TheVariants.{Outcome, Change}
+use Rattle.dap_variables.specs.Answers.{evaluation, prompt_evaluation, variables_answer}
 use Rattle.dap_variables.specs.Answers.{done_value}
 use Rattle.lab_core.specs.declared.fault.EventFault.TheVariants.{NotStopped}
 use Rattle.dap_program.specs.declared.messages.FollowUp.TheVariants.{Nothing}
@@ -35,25 +38,25 @@ command_reply (Err fault) s = refusing (board_refusal fault) s
 abbrev pub showing : EditorOutcome → SessionState → Replied
 showing outcome s = record { outcome = outcome; follow = Nothing; state = s }
 
-abbrev pub looking : Text → SessionState → Replied
-looking expression s = showing (evaluation s.board expression) s
+abbrev pub looking : Text → ValueFormat → SessionState → Replied
+looking expression format s = showing (evaluation s.board expression format) s
 
 -- the same for a line of the prompt
-abbrev pub looking_at_prompt : Text → SessionState → Replied
-looking_at_prompt line s = showing (prompt_evaluation s.board line) s
+abbrev pub looking_at_prompt : Text → ValueFormat → SessionState → Replied
+looking_at_prompt line format s = showing (prompt_evaluation s.board line format) s
 
 -- ---- both
 
-abbrev pub prompting : PromptCommand → Text → SessionState → Replied
-prompting (prompt.Board c) expression s = command_reply (command_result c s.board) s
-prompting prompt.MissingByte expression s = refusing (codes "a number from 0 to 255 must follow") s
-prompting prompt.Evaluate expression s = looking_at_prompt expression s
+abbrev pub prompting : PromptCommand → Text → ValueFormat → SessionState → Replied
+prompting (prompt.Board c) expression format s = command_reply (command_result c s.board) s
+prompting prompt.MissingByte expression format s = refusing (codes "a number from 0 to 255 must follow") s
+prompting prompt.Evaluate expression format s = looking_at_prompt expression format s
 
 -- only what is typed at the prompt may be a command
-abbrev pub evaluating : Text → EvaluateContext → SessionState → Replied
-evaluating expression Repl s = prompting (prompt_command expression) expression s
-evaluating expression Watch s = looking expression s
-evaluating expression Other s = looking expression s
+abbrev pub evaluating : Text → EvaluateContext → ValueFormat → SessionState → Replied
+evaluating expression Repl format s = prompting (prompt_command expression) expression format s
+evaluating expression Watch format s = looking expression format s
+evaluating expression Other format s = looking expression format s
 
 -- ---- variables
 
@@ -67,10 +70,10 @@ setting (Err message) s = refusing message s
 abbrev pub setting_stopped : Result SetValue Text → SessionState → Replied
 setting_stopped r s = if is_stopped s.board.run then setting r s else refusing (board_refusal NotStopped) s
 
-abbrev pub handling_by : Option (Result SetValue Text) → VariablesCommand → SessionState → Replied
-handling_by (Some r) c s = setting_stopped r s
-handling_by None c s = showing (variables_outcome c s.board) s
+abbrev pub handling_by : VariablesAnswer → SessionState → Replied
+handling_by (Outcome outcome) s = showing outcome s
+handling_by (Change r) s = setting_stopped r s
 
 -- a value is set, or something is shown
 abbrev pub handling : VariablesCommand → SessionState → Replied
-handling c s = handling_by (value_set c s.board) c s
+handling c s = handling_by (variables_answer c s.board) s

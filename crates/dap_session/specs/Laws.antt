@@ -219,19 +219,19 @@ pub record IsWatched (a : RequestContent) (s s' : SessionState) : Type 0 where
 
 -- a command that shows something, and sets no value
 abbrev pub IsShown : VariablesCommand → Type 0
-IsShown (variables.SetVariable reference name value) = ⊥
-IsShown (variables.SetExpression expression value) = ⊥
+IsShown (variables.SetVariable reference name value format) = ⊥
+IsShown (variables.SetExpression expression value format) = ⊥
 IsShown other = Unit {0}
 
 -- a request that only looks
 abbrev pub IsLook : RequestContent → Type 0
 IsLook (asked.Board c) = board.IsLook c
-IsLook (asked.Editor (editor.Evaluate expression context.Watch)) = Unit {0}
-IsLook (asked.Editor (editor.Evaluate expression context.Other)) = Unit {0}
+IsLook (asked.Editor (editor.Evaluate expression context.Watch format)) = Unit {0}
+IsLook (asked.Editor (editor.Evaluate expression context.Other format)) = Unit {0}
 IsLook (asked.Editor (editor.Variables c)) = IsShown c
 IsLook (asked.Editor editor.ExceptionInfo) = Unit {0}
 IsLook (asked.Editor (editor.ReadMemory address offset count)) = Unit {0}
-IsLook (asked.Editor (editor.Disassemble address offset instruction_offset count)) = Unit {0}
+IsLook (asked.Editor (editor.Disassemble address offset instruction_offset count operands)) = Unit {0}
 IsLook (asked.Editor editor.LoadedSources) = Unit {0}
 IsLook (asked.Editor (editor.GotoTargets path line)) = Unit {0}
 IsLook (asked.Editor (editor.DataBreakpointInfo query)) = Unit {0}

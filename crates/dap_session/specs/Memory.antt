@@ -1,14 +1,15 @@
 -- Memory and code (Debug Adapter Protocol, `readMemory`, `writeMemory` and `disassemble`).
-use Rattle.std.specs.Prelude.{ℕ, ◌-◌, [], length, take, Bool, true, false, Option, Some}
+use Rattle.std.specs.Prelude.{ℕ, ℤ, ◌-◌, length, take, Bool, true, false, Option, Some}
 use Rattle.std.specs.Prelude.{None, codes, if◌then◌else◌}
-use Rattle.base_text.specs.Bytes.{Bytes}
+use Rattle.base_text.specs.Bytes.{Bytes, Text}
 use Rattle.i80_exec.specs.State.{MachineState}
-use Rattle.lab_views.specs.Code.{lines_from, after_instructions}
-use Rattle.dap_answers.specs.declared.answer.Body.TheVariants.{Instructions}
-use Rattle.dap_editor.specs.declared.request.SignedOffset.{SignedOffset}
-use Rattle.dap_editor.specs.declared.request.SignedOffset.TheVariants.{Forward, Back}
+use Rattle.lab_views.specs.Code.{after_instructions}
+use Rattle.dap_arguments.specs.declared.offset.SignedOffset.{SignedOffset}
+use Rattle.dap_arguments.specs.declared.offset.SignedOffset.TheVariants.{Forward, Back}
 use Rattle.dap_messages.specs.declared.message.EditorBody.{EditorBody}
 use Rattle.dap_messages.specs.declared.message.EditorBody.TheVariants as body
+use Rattle.dap_messages.specs.declared.message.OperandStyle.{OperandStyle}
+use Rattle.dap_inspect.specs.Disassembly.{instructions_from}
 use Rattle.dap_inspect.specs.Memory.{bytes_from}
 use Rattle.dap_inspect.specs.Instructions.{before_instructions}
 use Rattle.dap_program.specs.Memory.{address_at}
@@ -23,10 +24,11 @@ use Rattle.dap_session.specs.Turns.{Replied, change_follow, refusing, succeeding
 
 -- ---- bytes
 
--- at most so many bytes; those past the last address are unreadable
-abbrev pub memory_at : Option ℕ → ℕ → ℕ → MachineState → EditorBody
-memory_at None address count m = body.Memory address [] count
-memory_at (Some start) address count m =
+-- At most so many bytes, of which those past the last address are unreadable. If there is no such address
+-- at all, it is told where that would be.
+abbrev pub memory_at : Option ℕ → ℤ → ℕ → MachineState → EditorBody
+memory_at None far count m = body.NoMemory far count
+memory_at (Some start) far count m =
     let bytes = bytes_from m start count in body.Memory start bytes (count - length bytes)
 
 -- ---- bytes that are written
@@ -57,5 +59,5 @@ first_line address (Forward n) b = after_instructions b.machine address n
 first_line address (Back n) b = before_instructions b address n
 
 -- so many lines of code from an address on
-abbrev pub code_at : ℕ → ℕ → Board → EditorBody
-code_at address count b = body.Board (Instructions (lines_from b.machine address count))
+abbrev pub code_at : Text → OperandStyle → ℕ → ℕ → Board → EditorBody
+code_at path operands address count b = body.Instructions (instructions_from b path operands address count)

@@ -1,5 +1,5 @@
 -- What each request is answered by, and the session after it (Debug Adapter Protocol, "Requests").
-use Rattle.std.specs.Prelude.{ℕ, List, true, not, ◌||◌, Option, Some}
+use Rattle.std.specs.Prelude.{ℕ, List, [], true, not, ◌||◌, Option, Some}
 use Rattle.std.specs.Prelude.{None, Ok, Err, option_to_list, option_map, codes, if◌then◌else◌}
 use Rattle.base_text.specs.Bytes.{Text}
 use Rattle.lab_core.specs.declared.answer.End.{End}
@@ -11,18 +11,21 @@ use Rattle.dap_board.specs.Commands.{Performed, command_result}
 use Rattle.dap_messages.specs.declared.message.UndefinedOpcode.{UndefinedOpcode}
 use Rattle.dap_messages.specs.declared.message.EditorBody.TheVariants as body
 use Rattle.dap_messages.specs.declared.message.EditorStop.TheVariants.{Board as AtBoard}
+use Rattle.dap_messages.specs.declared.message.Numbering.{Numbering}
+use Rattle.dap_messages.specs.declared.message.OperandStyle.{OperandStyle}
+use Rattle.dap_messages.specs.Numbering.{from_1}
 use Rattle.dap_editor.specs.declared.request.RequestContent.{RequestContent}
 use Rattle.dap_editor.specs.declared.request.RequestContent.TheVariants as asked
 use Rattle.dap_editor.specs.declared.request.EditorCommand.{EditorCommand}
 use Rattle.dap_editor.specs.declared.request.EditorCommand.TheVariants as editor
-use Rattle.dap_editor.specs.declared.request.SignedOffset.{SignedOffset}
+use Rattle.dap_arguments.specs.declared.offset.SignedOffset.{SignedOffset}
 use Rattle.dap_editor.specs.declared.request.SupportedEvents.{SupportedEvents}
 use Rattle.dap_program.specs.declared.messages.FollowUp.{FollowUp}
 use Rattle.dap_program.specs.declared.messages.FollowUp.TheVariants as follow
 use Rattle.dap_program.specs.Boards.{after}
 use Rattle.dap_program.specs.Bounds.{opens, is_bounded}
 use Rattle.dap_program.specs.Ends.{exit_code}
-use Rattle.dap_program.specs.Memory.{address_at, wrapped_at}
+use Rattle.dap_program.specs.Memory.{address_at, far_address, wrapped_at}
 use Rattle.dap_program.specs.Refusals.{board_refusal, request_refusal}
 use Rattle.dap_launch.specs.declared.file.FileText.{FileText}
 use Rattle.dap_launch.specs.declared.program.Program.{Program}
@@ -100,10 +103,11 @@ abbrev pub set_initialized : SupportedEvents → SessionState → SessionState
 set_initialized supported s =
     record s { settings = record s.settings { is_initialized = true; supported = supported } }
 
-abbrev pub initializing : SupportedEvents → SessionState → Replied
-initializing supported s =
+-- the editor is told the capabilities, and from then on lines and columns as it counts
+abbrev pub initializing : SupportedEvents → Numbering → SessionState → Replied
+initializing supported numbering s =
     if s.settings.is_initialized then refusing (codes "initialized already") s
-    else succeeding body.Capabilities follow.Nothing (set_initialized supported s)
+    else succeeding (body.Capabilities numbering) follow.Nothing (set_initialized supported s)
 
 abbrev pub set_configured : SessionState → SessionState
 set_configured s = record s { settings = record s.settings { is_configured = true } }
@@ -118,15 +122,21 @@ disconnecting s = accepting follow.Nothing (record s { settings = record s.setti
 
 abbrev pub reading : ℕ → SignedOffset → ℕ → SessionState → Replied
 reading address offset count s =
-    succeeding (memory_at (address_at address offset) address count s.board.machine) follow.Nothing s
-
-abbrev pub disassembling : ℕ → SignedOffset → SignedOffset → ℕ → SessionState → Replied
-disassembling address offset instruction_offset count s =
-    let start = first_line (wrapped_at address offset) instruction_offset s.board in
-    succeeding (code_at start count s.board) follow.Nothing s
+    succeeding (memory_at (address_at address offset) (far_address address offset) count s.board.machine)
+    follow.Nothing s
 
 abbrev pub path_of : Program → Text
 path_of p = p.launch.program
+
+-- nothing has a line without a program
+abbrev pub path_if : Option Program → Text
+path_if None = []
+path_if (Some p) = path_of p
+
+abbrev pub disassembling_from : ℕ → SignedOffset → ℕ → OperandStyle → SessionState → Replied
+disassembling_from address instruction_offset count operands s =
+    let first = first_line address instruction_offset s.board in
+    succeeding (code_at (path_if s.settings.program) operands first count s.board) follow.Nothing s
 
 abbrev pub sources : Option Program → List Text
 sources program = option_to_list (option_map path_of program)
@@ -134,7 +144,7 @@ sources program = option_to_list (option_map path_of program)
 -- ---- the commands
 
 abbrev pub commanding : DapCommand → SessionState → Replied
-commanding command.Initialize s = initializing no_events s
+commanding command.Initialize s = initializing no_events from_1 s
 commanding command.Attach s = refusing (codes "attach is not supported: launch a program") s
 commanding command.Disconnect s = disconnecting s
 commanding command.ConfigurationDone s = configuring s
@@ -148,8 +158,8 @@ commanding other s = performing other (follow_of other s) s
 abbrev pub editing_memory : EditorCommand → SessionState → Replied
 editing_memory (editor.ReadMemory address offset count) s = reading address offset count s
 editing_memory (editor.WriteMemory address offset bytes) s = writing address offset bytes s
-editing_memory (editor.Disassemble address offset instruction_offset count) s =
-    disassembling address offset instruction_offset count s
+editing_memory (editor.Disassemble address offset instruction_offset count operands) s =
+    disassembling_from (wrapped_at address offset) instruction_offset count operands s
 editing_memory (editor.GotoTargets path line) s = finding_target path line s
 editing_memory (editor.Goto target) s = going_to target s
 editing_memory (editor.Variables c) s = handling c s
@@ -166,11 +176,11 @@ editing_points (editor.BreakpointLocations path first last) s = locating path fi
 editing_points other s = editing_memory other s
 
 abbrev pub editing : EditorCommand → SessionState → Replied
-editing (editor.Initialize supported) s = initializing supported s
+editing (editor.Initialize supported numbering) s = initializing supported numbering s
 editing editor.Terminate s = terminating s
 editing (editor.SetExceptionBreakpoints filters) s = accepting follow.Nothing (with_filters filters s)
 editing editor.ExceptionInfo s = explaining (exception_of s.settings.program) s
-editing (editor.Evaluate expression context) s = evaluating expression context s
+editing (editor.Evaluate expression context format) s = evaluating expression context format s
 editing editor.LoadedSources s = succeeding (body.Sources (sources s.settings.program)) follow.Nothing s
 editing other s = editing_points other s
 
@@ -183,7 +193,7 @@ replying (asked.Faulty f) s = refusing (request_refusal f) s
 
 -- of the arguments that were read only how many instructions it is to a disassembly can be out of bounds
 abbrev pub bound_refusal : RequestContent → Text
-bound_refusal (asked.Editor (editor.Disassemble address offset instruction_offset count)) =
+bound_refusal (asked.Editor (editor.Disassemble address offset instruction_offset count operands)) =
     codes "bad arguments: instructionOffset"
 bound_refusal other = codes "bad arguments"
 

@@ -3,6 +3,7 @@ use base_text::text::Text;
 use dap_editor::reading::read_editor_request;
 use dap_editor::request::{EditorCommand, EditorRequest, RequestContent};
 use dap_launch::paths::{named_path, with_canonical};
+use dap_messages::numbering::FROM_1;
 use serde_json::Value;
 use std::alloc::{AllocError, AllocGlobal, Global};
 use std::process::Abort;
@@ -30,7 +31,7 @@ fn request(alloc: Global, asked: &str) -> Result<EditorRequest, AllocError> {
     drop(text);
     match value {
         Ok(value) => {
-            let request = read_editor_request(alloc, &value);
+            let request = read_editor_request(alloc, FROM_1, &value);
             drop(value);
             request
         }

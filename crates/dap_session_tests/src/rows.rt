@@ -7,9 +7,10 @@ use base_text::sequence::Sequence;
 use base_text::text::Text;
 use dap_editor::reading::read_editor_request;
 use dap_editor::request::EditorRequest;
+use dap_json::json::message_json;
 use dap_launch::file::FileText;
-use dap_messages::json::message_json;
 use dap_messages::message::Message;
+use dap_messages::numbering::FROM_1;
 use dap_session::session::Session;
 use serde_json::Value;
 use std::alloc::{AllocError, AllocGlobal, Global};
@@ -104,7 +105,8 @@ const CAPABILITIES: &str = concat!(
     r#""supportsReadMemoryRequest":true,"supportsRestartRequest":true,"supportsSetExpression":true,"#,
     r#""supportsSetVariable":true,"#,
     r#""supportsStepBack":true,"supportsSteppingGranularity":true,"#,
-    r#""supportsTerminateRequest":true,"supportsWriteMemoryRequest":true}"#,
+    r#""supportsTerminateRequest":true,"supportsValueFormattingOptions":true,"#,
+    r#""supportsWriteMemoryRequest":true}"#,
 );
 
 fn program(name: &str) -> Option<&'static str> {
@@ -141,7 +143,7 @@ fn request(alloc: Global, seq: u32, asked: &str) -> Result<EditorRequest, AllocE
     let text = request_text(alloc, seq, asked)?;
     match Value::from_str(alloc, text.as_str()) {
         Ok(value) => {
-            let request = read_editor_request(alloc, &value);
+            let request = read_editor_request(alloc, FROM_1, &value);
             drop(value);
             request
         }
@@ -214,7 +216,7 @@ fn push_members(out: &mut String, alloc: Global, value: &Value) -> Result<(), Al
 // Adds a message behind ` ->`.
 fn push_message(out: &mut String, alloc: Global, message: &Message) -> Result<(), AllocError> {
     out.push_str(" ->")?;
-    let value = message_json(alloc, 0, message)?;
+    let value = message_json(alloc, FROM_1, 0, message)?;
     let pushed = push_members(out, alloc, &value);
     drop(value);
     pushed

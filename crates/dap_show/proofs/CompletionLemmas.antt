@@ -1,22 +1,47 @@
--- Completions, one by one.
-use Rattle.std.proofs.Common.{◌≡◌, ◌∙◌, ◌≤◌, List, [], ◌∷◌, ◌++◌, length, true, false, nat_eq, refl, arith}
+-- Completions, more and more.
+use Rattle.std.proofs.Common.{◌≡◌, ◌∙◌, ◌<◌, ◌≤◌, List, [], ◌∷◌, ◌++◌, length, true, false, nat_eq}
+use Rattle.std.proofs.Common.{refl, sym, ap, arith, append_assoc, append-nil}
 use Rattle.std.specs.List.{All, filter}
-use Rattle.std.proofs.lemmas.List.{length-take, map-id}
+use Rattle.std.proofs.lemmas.List.{length-take}
 use Rattle.std.proofs.lemmas.List.Elements.{All-take, filter_passes}
 use Rattle.base_text.specs.Bytes.{Text}
 use Rattle.asm_build.specs.Reading.{Entries}
 use Rattle.dap_messages.specs.declared.message.Completion.{Completion}
-use Rattle.dap_show.specs.Completions.{begins_with, completions_for, part_completions, symbol_completions}
-use Rattle.dap_show.specs.Completions.{value_names, with_completions}
-use Rattle.dap_show.proofs.ListLemmas.{first_passing}
+use Rattle.dap_show.specs.Completions.{Completes, begins_with, completions_for, part_completions}
+use Rattle.dap_show.specs.Completions.{symbol_completions, value_names}
+use Rattle.dap_show.proofs.ListLemmas.{first_fails, first_full, first_passes}
+
+-- ---- more and more
+
+pub completes_none : (word : Text) (items : List Completion) → Completes word [] items items
+completes_none word items cs is = is ∙ ap (completions_for word) (sym (append-nil cs))
+
+pub completes_both : (word : Text) (more others items items' items'' : List Completion)
+    → Completes word more items items' → Completes word others items' items''
+    → Completes word (more ++ others) items items''
+completes_both word more others items items' items'' front back cs is =
+    back (cs ++ more) (front cs is) ∙ ap (completions_for word) (append_assoc cs more others)
+
+pub begins : (word : Text) (c : Completion) (items items' : List Completion)
+    → begins_with c.label word ≡ true → length items < 256 → items' ≡ items ++ c ∷ []
+    → Completes word (c ∷ []) items items'
+begins word c items items' passes room pushed cs is =
+    let few : length (completions_for word cs) < 256 = rw (← is) room in
+    pushed
+    ∙ ap (λ xs. xs ++ c ∷ []) is
+    ∙ sym (first_passes (λ x. begins_with x.label word) cs c passes few)
+
+pub begins_otherwise : (word : Text) (c : Completion) (items : List Completion)
+    → begins_with c.label word ≡ false → Completes word (c ∷ []) items items
+begins_otherwise word c items other cs is =
+    is ∙ sym (first_fails (λ x. begins_with x.label word) cs c other)
+
+pub is_full : (word : Text) (more items : List Completion) → 256 ≤ length items
+    → Completes word more items items
+is_full word more items full cs is =
+    is ∙ sym (first_full (λ x. begins_with x.label word) cs more (rw (← is) full))
 
 -- ---- the first 256 that begin with the word
-
--- all together
-pub all_completions : (word : Text) (cs : List Completion)
-    → with_completions word [] cs ≡ completions_for word cs
-all_completions word cs =
-    first_passing (λ c. begins_with c.label word) (λ c. c) cs ∙ map-id (completions_for word cs)
 
 pub all_begin : (word : Text) (cs : List Completion)
     → All (λ c. begins_with c.label word ≡ true) (completions_for word cs)

@@ -1,7 +1,7 @@
 -- The names that begin with the word before a column (Debug Adapter Protocol, "CompletionItem"). Columns
 -- count from 1, and each is a byte.
-use Rattle.std.specs.Prelude.{ℕ, ◌+◌, ◌-◌, ◌==◌, ◌&&◌, ◌||◌, nat_lt, List, [], ◌∷◌, ◌++◌, map, length}
-use Rattle.std.specs.Prelude.{take, drop, fold, Bool, true, false, codes, if◌then◌else◌}
+use Rattle.std.specs.Prelude.{◌≡◌, ℕ, ◌+◌, ◌-◌, ◌==◌, ◌||◌, List, [], ◌∷◌, ◌++◌, map, length, take, drop}
+use Rattle.std.specs.Prelude.{Bool, true, false, codes, if◌then◌else◌}
 use Rattle.std.specs.List.{filter, list_all, suffix_len}
 use Rattle.std.specs.Char.{is_ascii_alphanumeric}
 use Rattle.std.specs.Str.{str_eq_ignore_ascii_case}
@@ -10,6 +10,7 @@ use Rattle.asm_syntax.specs.Ascii.{tab, space, dollar, question_mark, at_sign}
 use Rattle.asm_build.specs.Reading.{Entries}
 use Rattle.lab_core.specs.Board.{Board}
 use Rattle.dap_messages.specs.declared.message.Completion.{Completion}
+use Rattle.dap_messages.specs.declared.message.CompletionKind.{CompletionKind}
 use Rattle.dap_messages.specs.declared.message.CompletionKind.TheVariants as kind
 use Rattle.dap_show.specs.declared.completion.Completions.{Completions}
 
@@ -43,9 +44,9 @@ abbrev pub dollar_text : Text → Text
 dollar_text [] = []
 dollar_text (c ∷ cs) = if c == dollar then codes "$" else []
 
--- a part's name, with the $ of a word that has it
-abbrev pub part_completion : Text → Text → Completion
-part_completion word name = record { label = dollar_text word ++ name; kind = kind.Part }
+-- a name of a kind, behind a text
+abbrev pub completion_named : Text → CompletionKind → Text → Completion
+completion_named front kind name = record { label = front ++ name; kind = kind }
 
 abbrev pub part_names : List Text
 part_names =
@@ -53,20 +54,15 @@ part_names =
     ∷ codes "PSW" ∷ codes "BC" ∷ codes "DE" ∷ codes "HL" ∷ codes "PC" ∷ codes "S" ∷ codes "Z" ∷ codes "P"
     ∷ codes "CY" ∷ codes "AC" ∷ []
 
+-- the parts, with the $ of a word that has it
 abbrev pub part_completions : Text → List Completion
-part_completions word = map (part_completion word) part_names
-
-abbrev pub symbol_named : Text → Completion
-symbol_named name = record { label = name; kind = kind.Symbol }
+part_completions word = map (completion_named (dollar_text word) kind.Part) part_names
 
 abbrev pub symbol_completions : Entries → List Completion
-symbol_completions symbols = map (λ e. symbol_named e.0) symbols
-
-abbrev pub prompt_word : Text → Completion
-prompt_word name = record { label = name; kind = kind.Word }
+symbol_completions symbols = map (λ e. completion_named [] kind.Symbol e.0) symbols
 
 abbrev pub prompt_words : List Completion
-prompt_words = map prompt_word
+prompt_words = map (completion_named [] kind.Word)
     (codes "switches" ∷ codes "press" ∷ codes "type" ∷ codes "back" ∷ codes "symbols" ∷ [])
 
 -- parts and symbols, of which an empty word means none
@@ -104,11 +100,9 @@ completions_before before symbols = record {
 abbrev pub completions_on : Board → Text → ℕ → Completions
 completions_on b text column = completions_before (text_before text column) b.symbols
 
--- ---- one by one
+-- ---- more and more
 
--- the completions so far and one more, if it begins with the word and there are fewer than 256
-abbrev pub with_completion : Text → List Completion → Completion → List Completion
-with_completion word cs c = if begins_with c.label word && nat_lt (length cs) 256 then cs ++ c ∷ [] else cs
-
-abbrev pub with_completions : Text → List Completion → List Completion → List Completion
-with_completions word cs more = fold (with_completion word) cs more
+-- whatever was completed so far, these are completed after it
+abbrev pub Completes : Text → List Completion → List Completion → List Completion → Type 0
+Completes word more old new = (cs : List Completion) → old ≡ completions_for word cs
+    → new ≡ completions_for word (cs ++ more)

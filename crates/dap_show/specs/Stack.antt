@@ -3,16 +3,16 @@ use Rattle.std.specs.Prelude.{ℕ, ◌+◌, ◌-◌, ◌*◌, ◌/◌, ◌==◌,
 use Rattle.std.specs.Prelude.{Option, Some, None, option_map, codes, if◌then◌else◌}
 use Rattle.std.specs.List.{range_with_len}
 use Rattle.base_text.specs.Bytes.{Text}
-use Rattle.base_text.specs.Hexadecimal.{upper_word}
 use Rattle.i80_exec.specs.State.{word_at}
-use Rattle.asm_syntax.specs.Numerals.{word_text}
 use Rattle.asm_build.specs.Reading.{Entries}
 use Rattle.lab_frames.specs.declared.frame.Frame.{Frame}
 use Rattle.lab_frames.specs.Live.{live}
 use Rattle.lab_views.specs.Frames.{routine_name}
 use Rattle.lab_core.specs.Board.{Board}
 use Rattle.dap_messages.specs.declared.message.EditorVariable.{EditorVariable}
-use Rattle.dap_show.specs.Rows.{row}
+use Rattle.dap_messages.specs.declared.message.ValueFormat.{ValueFormat}
+use Rattle.dap_inspect.specs.Format.{word_shown}
+use Rattle.dap_show.specs.Rows.{row_at}
 
 -- ---- where return addresses lead
 
@@ -38,16 +38,13 @@ abbrev pub return_text : Option Text → Text
 return_text None = []
 return_text (Some name) = codes ", back in " ++ name
 
-abbrev pub word_expression : ℕ → Text
-word_expression address = codes "word[" ++ word_text address ++ codes "]"
-
-abbrev pub stack_text : Board → ℕ → Text
-stack_text b address = word_text (word_at b.machine address) ++ return_text (returns_to b address)
+abbrev pub stack_text : ValueFormat → Board → ℕ → Text
+stack_text format b address =
+    word_shown format (word_at b.machine address) ++ return_text (returns_to b address)
 
 -- the word at an address, and where it leads back to
-abbrev pub word_row : Board → ℕ → EditorVariable
-word_row b address =
-    row (upper_word address) (stack_text b address) (Some address) (Some (word_expression address))
+abbrev pub word_row : ValueFormat → Board → ℕ → EditorVariable
+word_row format b address = row_at (codes "word[") (stack_text format b address) address
 
 -- the number of words that begin at SP or above it, two bytes apart
 abbrev pub stack_words : ℕ → ℕ
@@ -58,8 +55,8 @@ abbrev pub stack_address : ℕ → ℕ → ℕ
 stack_address sp index = sp + 2 * index
 
 -- that many words from an index on, but none past the last address
-abbrev pub stack_rows : Board → ℕ → ℕ → List EditorVariable
-stack_rows b start count =
+abbrev pub stack_rows : ValueFormat → Board → ℕ → ℕ → List EditorVariable
+stack_rows format b start count =
     let sp = b.machine.regs.sp in
-    map (λ index. word_row b (stack_address sp index))
+    map (λ index. word_row format b (stack_address sp index))
     (range_with_len start (min count (stack_words sp - start)))

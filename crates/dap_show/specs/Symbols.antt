@@ -1,6 +1,5 @@
 -- The symbols that have a part in their names, a line for each.
-use Rattle.std.specs.Prelude.{ℕ, List, [], ◌∷◌, ◌++◌, map, length, take, Bool, ◌&&◌, ◌||◌, nat_lt, codes}
-use Rattle.std.specs.Prelude.{if◌then◌else◌}
+use Rattle.std.specs.Prelude.{ℕ, List, [], ◌∷◌, ◌++◌, map, take, Bool, ◌||◌, codes}
 use Rattle.std.specs.List.{filter, join_with_byte}
 use Rattle.base_text.specs.Bytes.{Text}
 use Rattle.asm_syntax.specs.Numerals.{word_text}
@@ -32,11 +31,9 @@ lines_with symbols part = map symbol_line (entries_with symbols part)
 abbrev pub joined_lines : List Text → Text
 joined_lines lines = join_with_byte line_feed lines
 
+abbrev pub text_with : Entries → Text → Text
+text_with symbols part = joined_lines (lines_with symbols part)
+
 -- the text of the board's symbols whose names have the part
 abbrev pub symbols_with : Board → Text → Text
-symbols_with b part = joined_lines (lines_with b.symbols part)
-
--- the lines so far and a symbol's, if its name has the part and there are fewer than 256
-abbrev pub with_line : Text → List Text → List ℕ × Symbol → List Text
-with_line part lines e =
-    if has_part e.0 part && nat_lt (length lines) 256 then lines ++ symbol_line e ∷ [] else lines
+symbols_with b part = text_with b.symbols part

@@ -1,21 +1,30 @@
 //! Completions of the word before a column of a text.
-ghost use Rattle.std.specs.Prelude.{◌≡◌, ◌≤◌, ◌++◌, [], length, IfOk, OnOk};
+ghost use Rattle.std.specs.Prelude.{◌≡◌, ◌≤◌, ◌∷◌, [], length, map, IfOk, OnOk};
 ghost use Rattle.std.specs.List.{list_all};
 ghost use Rattle.lab_core.specs.Board.{Board};
 ghost use Rattle.lab_core.specs.Labs.{RepresentsBoard};
 ghost use Rattle.dap_show.specs.Completions as completions;
-ghost use Rattle.dap_show.specs.Completions.{completions_on};
+ghost use Rattle.dap_show.specs.Completions.{Completes, completions_on};
 
-use crate::names::symbol_at;
 use asm_build::symbols::Symbols;
 use base_text::sequence::Sequence;
 use base_text::text::Text;
 use dap_messages::message::{Completion, CompletionKind};
 use lab_core::lab::Lab;
+use lab_views::names::symbol_at;
 use std::alloc::{AllocError, Global};
 
 /// The most completions that are given.
 const MOST: usize = 256;
+
+/// The parts of the machine.
+const PARTS: [&str; 19] = [
+    "A", "B", "C", "D", "E", "H", "L", "M", "SP", "PSW", "BC", "DE", "HL", "PC", "S", "Z", "P",
+    "CY", "AC",
+];
+
+/// The words with which a line of the prompt begins.
+const WORDS: [&str; 5] = ["switches", "press", "type", "back", "symbols"];
 
 /// Completions of a word, and where it is.
 #[derive(Drop)]
@@ -84,99 +93,52 @@ fn push(
     word: &[u8],
     completion: Completion,
 ) -> Result<(), AllocError>
-    ensures { OnOk result (items.new ≡ completions.with_completion word.now items.old completion) }
+    ensures { OnOk result (Completes word.now (completion ∷ []) items.old items.new) }
 {
-    if begins_with(completion.label.as_str().as_bytes(), word) && items.len() < MOST {
-        return items.push(completion);
+    if items.len() >= MOST {
+        return Ok(());
     }
-    Ok(())
-}
-
-fn push_word(
-    alloc: Global,
-    items: &mut Sequence<Completion>,
-    word: &[u8],
-    name: &str,
-) -> Result<(), AllocError>
-    ensures { OnOk result (items.new
-        ≡ completions.with_completion word.now items.old (completions.prompt_word name.now)) }
-{
-    let label = Text::copy_of(alloc, name)?;
-    let kind = CompletionKind::Word;
-    push(items, word, Completion { label, kind })
-}
-
-fn push_symbol(
-    alloc: Global,
-    items: &mut Sequence<Completion>,
-    word: &[u8],
-    name: &str,
-) -> Result<(), AllocError>
-    ensures { OnOk result (items.new
-        ≡ completions.with_completion word.now items.old (completions.symbol_named name.now)) }
-{
-    let label = Text::copy_of(alloc, name)?;
-    let kind = CompletionKind::Symbol;
-    push(items, word, Completion { label, kind })
-}
-
-fn dollar_text(word: &[u8]) -> &'static str
-    ensures { result.now ≡ completions.dollar_text word.now }
-{
-    match word {
-        [b'$', ..] => "$",
-        _ => "",
+    if !begins_with(completion.label.as_str().as_bytes(), word) {
+        return Ok(());
     }
+    items.push(completion)
 }
 
-fn push_part(
+/// The same for a name of a kind, behind a text.
+fn push_name(
     alloc: Global,
     items: &mut Sequence<Completion>,
     word: &[u8],
+    front: &str,
+    kind: CompletionKind,
     name: &str,
 ) -> Result<(), AllocError>
-    ensures { OnOk result (items.new ≡ completions.with_completion word.now items.old
-        (completions.part_completion word.now name.now)) }
+    ensures { OnOk result (Completes word.now (completions.completion_named front.now kind name.now ∷ [])
+        items.old items.new) }
 {
-    let mut label = String::new(alloc);
-    label.push_str(dollar_text(word))?;
+    let mut label = String::from_str(alloc, front)?;
     label.push_str(name)?;
-    let completion = Completion {
-        label: Text::from(label),
-        kind: CompletionKind::Part,
-    };
-    push(items, word, completion)
+    let label = Text::from(label);
+    push(items, word, Completion { label, kind })
 }
 
 // ---- all of a kind
 
-fn push_parts(
+fn push_names(
     alloc: Global,
     items: &mut Sequence<Completion>,
     word: &[u8],
+    front: &str,
+    kind: CompletionKind,
+    names: &[&str],
 ) -> Result<(), AllocError>
-    ensures { OnOk result (items.new ≡ completions.with_completions word.now items.old
-        (completions.part_completions word.now)) }
+    ensures { OnOk result (Completes word.now
+        (map (λ name. completions.completion_named front.now kind name.now) names.now) items.old items.new) }
 {
-    push_part(alloc, items, word, "A")?;
-    push_part(alloc, items, word, "B")?;
-    push_part(alloc, items, word, "C")?;
-    push_part(alloc, items, word, "D")?;
-    push_part(alloc, items, word, "E")?;
-    push_part(alloc, items, word, "H")?;
-    push_part(alloc, items, word, "L")?;
-    push_part(alloc, items, word, "M")?;
-    push_part(alloc, items, word, "SP")?;
-    push_part(alloc, items, word, "PSW")?;
-    push_part(alloc, items, word, "BC")?;
-    push_part(alloc, items, word, "DE")?;
-    push_part(alloc, items, word, "HL")?;
-    push_part(alloc, items, word, "PC")?;
-    push_part(alloc, items, word, "S")?;
-    push_part(alloc, items, word, "Z")?;
-    push_part(alloc, items, word, "P")?;
-    push_part(alloc, items, word, "CY")?;
-    push_part(alloc, items, word, "AC")
+    for name in names {
+        push_name(alloc, items, word, front, kind, name)?;
+    }
+    Ok(())
 }
 
 fn push_symbols(
@@ -185,29 +147,24 @@ fn push_symbols(
     word: &[u8],
     symbols: &Symbols,
 ) -> Result<(), AllocError>
-    ensures { OnOk result (items.new ≡ completions.with_completions word.now items.old
-        (completions.symbol_completions symbols.now)) }
+    ensures { OnOk result (Completes word.now (completions.symbol_completions symbols.now)
+        items.old items.new) }
 {
     for index in 0..symbols.len() {
         let (name, _) = symbol_at(symbols, index);
-        push_symbol(alloc, items, word, name)?;
+        push_name(alloc, items, word, "", CompletionKind::Symbol, name)?;
     }
     Ok(())
 }
 
-fn push_words(
-    alloc: Global,
-    items: &mut Sequence<Completion>,
-    word: &[u8],
-) -> Result<(), AllocError>
-    ensures { OnOk result (items.new
-        ≡ completions.with_completions word.now items.old completions.prompt_words) }
+/// The `$` that a word begins with.
+fn dollar_text(word: &[u8]) -> &'static str
+    ensures { result.now ≡ completions.dollar_text word.now }
 {
-    push_word(alloc, items, word, "switches")?;
-    push_word(alloc, items, word, "press")?;
-    push_word(alloc, items, word, "type")?;
-    push_word(alloc, items, word, "back")?;
-    push_word(alloc, items, word, "symbols")
+    match word.split_first() {
+        Some((first, _)) if *first == b'$' => "$",
+        _ => "",
+    }
 }
 
 fn push_values(
@@ -216,13 +173,14 @@ fn push_values(
     word: &[u8],
     symbols: &Symbols,
 ) -> Result<(), AllocError>
-    ensures { OnOk result (items.new ≡ completions.with_completions word.now items.old
-        (completions.value_names word.now symbols.now)) }
+    ensures { OnOk result (Completes word.now (completions.value_names word.now symbols.now)
+        items.old items.new) }
 {
     if word.is_empty() {
         return Ok(());
     }
-    push_parts(alloc, items, word)?;
+    let front = dollar_text(word);
+    push_names(alloc, items, word, front, CompletionKind::Part, &PARTS)?;
     push_symbols(alloc, items, word, symbols)
 }
 
@@ -232,11 +190,10 @@ fn push_first_words(
     word: &[u8],
     is_first: bool,
 ) -> Result<(), AllocError>
-    ensures { OnOk result (items.new ≡ completions.with_completions word.now items.old
-        (completions.first_words is_first)) }
+    ensures { OnOk result (Completes word.now (completions.first_words is_first) items.old items.new) }
 {
     if is_first {
-        return push_words(alloc, items, word);
+        return push_names(alloc, items, word, "", CompletionKind::Word, &WORDS);
     }
     Ok(())
 }

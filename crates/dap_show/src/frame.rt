@@ -4,12 +4,12 @@ ghost use Rattle.lab_core.specs.Board.{Board};
 ghost use Rattle.lab_core.specs.Labs.{RepresentsBoard};
 ghost use Rattle.dap_show.specs.Stack as stack;
 
-use crate::names::routine_name;
 use asm_build::symbols::Symbols;
 use base_text::text::Text;
 use lab_core::lab::Lab;
 use lab_frames::frame::Frame;
 use lab_frames::frames::Frames;
+use lab_views::names::routine_name;
 use std::alloc::{AllocError, Global};
 
 /// A live frame by its age, where 0 is the innermost.

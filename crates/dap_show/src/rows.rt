@@ -1,28 +1,24 @@
 //! The rows of the board's own scopes.
-ghost use Rattle.std.specs.Prelude.{◌≡◌, ◌∷◌, ◌++◌, ◌+◌, ◌*◌, [], List, IfOk, OnOk, None, Some};
-ghost use Rattle.asm_syntax.specs.Numerals.{byte_text, word_text};
+ghost use Rattle.std.specs.Prelude.{◌≡◌, ◌∷◌, ◌++◌, ◌+◌, ◌*◌, [], List, IfOk, OnOk, map};
 ghost use Rattle.i80_devs.specs.Past.{Operation, RepresentsPast, panel_after};
 ghost use Rattle.lab_core.specs.Board.{Board};
 ghost use Rattle.lab_core.specs.Labs.{RepresentsBoard};
 ghost use Rattle.lab_views.specs.Paging.{page};
-ghost use Rattle.dap_show.specs.Rows.{row, part_row, address_row, pair_row, psw_row, register_rows};
-ghost use Rattle.dap_show.specs.Rows.{flag_row, flag_rows, panel_row, device_rows, symbol_rows};
-ghost use Rattle.dap_show.specs.Rows.{memory_row, memory_rows};
+ghost use Rattle.dap_show.specs.Rows as rows_of;
 
-use crate::names::symbol_at;
-use crate::paging::end_of;
-use crate::texts::{
-    address_text, bit_text, byte_expression, byte_text, decimal, interrupts_text, latched_text,
-    part_expression, word_text,
-};
-use asm_build::symbols::Symbols;
+use crate::texts::{address_text, expression_at, part_expression};
+use asm_build::symbols::{Symbol, Symbols};
 use base_text::sequence::Sequence;
 use base_text::text::Text;
-use dap_messages::message::{EditorVariable, ShownValue};
+use dap_inspect::format::{byte_shown, word_shown};
+use dap_messages::message::{EditorVariable, ShownValue, ValueFormat};
 use i80_devs::devices::Devices;
-use i80_exec::registers::Registers;
+use i80_exec::registers::{Interrupts, Registers};
 use i80_rows::memory::MEMORY_SIZE;
 use lab_core::lab::Lab;
+use lab_views::names::symbol_at;
+use lab_views::paging::end_of;
+use lab_views::texts::{bit_text, decimal, interrupts_text, latched_text};
 use std::alloc::{AllocError, Global};
 
 /// Rows of a scope.
@@ -31,184 +27,181 @@ pub(crate) type Rows = Sequence<EditorVariable>;
 /// The number of addresses.
 const ADDRESSES: u32 = MEMORY_SIZE as u32;
 
-/// The word of two bytes.
-fn word_of(high: u8, low: u8) -> u16
-    ensures { result ≡ 256 * high + low }
-{
-    u16::from(high) * 256 + u16::from(low)
+/// What a row shows.
+#[derive(Clone, Copy)]
+pub(crate) enum RowValue {
+    Byte(u8),
+    Word(u16),
+    /// A word that may be an address.
+    Address(u16),
+    Flag(bool),
+    Interrupts(Interrupts),
+    /// The lines of a device, of which each is a bit.
+    Lines(u8),
+    /// The latched request.
+    Latched(Option<u8>),
+    Count(usize),
 }
 
-// ---- one more row
+// ---- parts of the machine
 
-pub(crate) fn push(
+fn value_text(alloc: Global, format: ValueFormat, value: RowValue) -> Result<Text, AllocError>
+    ensures { IfOk result (λ text. text ≡ rows_of.value_text format value) }
+{
+    match value {
+        RowValue::Byte(byte) => byte_shown(alloc, format, byte),
+        RowValue::Word(word) => word_shown(alloc, format, word),
+        RowValue::Address(word) => word_shown(alloc, format, word),
+        RowValue::Flag(flag) => Text::copy_of(alloc, bit_text(flag)),
+        RowValue::Interrupts(interrupts) => Text::copy_of(alloc, interrupts_text(interrupts)),
+        RowValue::Lines(byte) => byte_shown(alloc, format, byte),
+        RowValue::Latched(request) => latched_text(alloc, request),
+        RowValue::Count(many) => decimal(alloc, many),
+    }
+}
+
+fn window(value: RowValue) -> Option<u16>
+    ensures { result ≡ rows_of.window value }
+{
+    match value {
+        RowValue::Address(word) => Some(word),
+        _ => None,
+    }
+}
+
+fn expression_of(alloc: Global, name: &str, value: RowValue) -> Result<Option<Text>, AllocError>
+    ensures { IfOk result (λ text. text ≡ rows_of.expression_of name.now value) }
+{
+    match value {
+        RowValue::Interrupts(_) | RowValue::Lines(_) | RowValue::Latched(_) | RowValue::Count(_) =>
+            Ok(None),
+        RowValue::Byte(_) | RowValue::Word(_) | RowValue::Address(_) | RowValue::Flag(_) => {
+            let expression = part_expression(alloc, name)?;
+            Ok(Some(expression))
+        }
+    }
+}
+
+fn push_value(
     alloc: Global,
     rows: &mut Rows,
+    format: ValueFormat,
     name: &str,
-    value: ShownValue,
-    expression: Option<Text>,
+    value: RowValue,
 ) -> Result<(), AllocError>
-    ensures { OnOk result (rows.new
-        ≡ rows.old ++ row name.now value.text value.memory expression ∷ []) }
+    ensures { OnOk result (rows.new ≡ rows.old ++ rows_of.value_row format name.now value ∷ []) }
 {
+    let text = value_text(alloc, format, value)?;
+    let expression = expression_of(alloc, name, value)?;
     let name = Text::copy_of(alloc, name)?;
+    let memory = window(value);
     rows.push(EditorVariable {
         name,
-        value,
+        value: ShownValue { text, memory },
         expression,
     })
 }
 
-fn push_part(alloc: Global, rows: &mut Rows, name: &str, text: Text) -> Result<(), AllocError>
-    ensures { OnOk result (rows.new ≡ rows.old ++ part_row name.now text ∷ []) }
-{
-    let expression = part_expression(alloc, name)?;
-    let value = ShownValue { text, memory: None };
-    push(alloc, rows, name, value, Some(expression))
-}
-
-fn push_byte(alloc: Global, rows: &mut Rows, name: &str, byte: u8) -> Result<(), AllocError>
-    ensures { OnOk result (rows.new ≡ rows.old ++ part_row name.now (byte_text byte) ∷ []) }
-{
-    let text = byte_text(alloc, byte)?;
-    push_part(alloc, rows, name, text)
-}
-
-fn push_flag(alloc: Global, rows: &mut Rows, name: &str, flag: bool) -> Result<(), AllocError>
-    ensures { OnOk result (rows.new ≡ rows.old ++ flag_row name.now flag ∷ []) }
-{
-    let text = Text::copy_of(alloc, bit_text(flag))?;
-    push_part(alloc, rows, name, text)
-}
-
-fn push_address(alloc: Global, rows: &mut Rows, name: &str, word: u16) -> Result<(), AllocError>
-    ensures { OnOk result (rows.new ≡ rows.old ++ address_row name.now word ∷ []) }
-{
-    let expression = part_expression(alloc, name)?;
-    let text = word_text(alloc, word)?;
-    let value = ShownValue {
-        text,
-        memory: Some(word),
-    };
-    push(alloc, rows, name, value, Some(expression))
-}
-
-/// A row that no expression has the value of.
-fn push_plain(alloc: Global, rows: &mut Rows, name: &str, text: Text) -> Result<(), AllocError>
-    ensures { OnOk result (rows.new ≡ rows.old ++ panel_row name.now text ∷ []) }
-{
-    let value = ShownValue { text, memory: None };
-    push(alloc, rows, name, value, None)
-}
-
-// ---- registers and flags
-
-fn push_pair(
+fn value_rows(
     alloc: Global,
-    rows: &mut Rows,
-    name: &str,
-    high: u8,
-    low: u8,
-) -> Result<(), AllocError>
-    ensures { OnOk result (rows.new ≡ rows.old ++ pair_row name.now high low ∷ []) }
-{
-    push_address(alloc, rows, name, word_of(high, low))
-}
-
-fn push_psw(alloc: Global, rows: &mut Rows, regs: Registers) -> Result<(), AllocError>
-    ensures { OnOk result (rows.new ≡ rows.old ++ psw_row regs ∷ []) }
-{
-    let text = word_text(alloc, word_of(regs.a, regs.flags.to_byte()))?;
-    push_part(alloc, rows, "PSW", text)
-}
-
-fn push_registers(alloc: Global, rows: &mut Rows, regs: Registers) -> Result<(), AllocError>
-    requires { rows.old ≡ [] }
-    ensures { OnOk result (rows.new ≡ register_rows regs) }
-{
-    push_byte(alloc, rows, "A", regs.a)?;
-    push_byte(alloc, rows, "B", regs.b)?;
-    push_byte(alloc, rows, "C", regs.c)?;
-    push_byte(alloc, rows, "D", regs.d)?;
-    push_byte(alloc, rows, "E", regs.e)?;
-    push_byte(alloc, rows, "H", regs.h)?;
-    push_byte(alloc, rows, "L", regs.l)?;
-    push_address(alloc, rows, "SP", regs.sp)?;
-    push_address(alloc, rows, "PC", regs.pc)?;
-    push_pair(alloc, rows, "BC", regs.b, regs.c)?;
-    push_pair(alloc, rows, "DE", regs.d, regs.e)?;
-    push_pair(alloc, rows, "HL", regs.h, regs.l)?;
-    push_psw(alloc, rows, regs)
-}
-
-pub(crate) fn registers(alloc: Global, regs: Registers) -> Result<Rows, AllocError>
-    ensures { IfOk result (λ rows. rows ≡ register_rows regs) }
+    format: ValueFormat,
+    parts: &[(&str, RowValue)],
+) -> Result<Rows, AllocError>
+    ensures { IfOk result (λ rows. rows ≡ map (λ p. rows_of.value_row format p.0.now p.1) parts.now) }
 {
     let mut rows = Sequence::new(alloc);
-    push_registers(alloc, &mut rows, regs)?;
+    for (name, value) in parts {
+        push_value(alloc, &mut rows, format, name, *value)?;
+    }
     Ok(rows)
 }
 
-fn push_flags(alloc: Global, rows: &mut Rows, regs: Registers) -> Result<(), AllocError>
-    requires { rows.old ≡ [] }
-    ensures { OnOk result (rows.new ≡ flag_rows regs) }
+/// The word of two bytes.
+fn word_of(high: u8, low: u8) -> u16
+    ensures { result ≡ 256 * high + low }
 {
-    let flags = regs.flags;
-    push_flag(alloc, rows, "S", flags.sign())?;
-    push_flag(alloc, rows, "Z", flags.zero())?;
-    push_flag(alloc, rows, "AC", flags.auxiliary_carry())?;
-    push_flag(alloc, rows, "P", flags.parity())?;
-    push_flag(alloc, rows, "CY", flags.carry())?;
-    let interrupts = Text::copy_of(alloc, interrupts_text(regs.interrupts))?;
-    push_plain(alloc, rows, "INTE", interrupts)
+    u16::from_be_bytes([high, low])
 }
 
-pub(crate) fn flags(alloc: Global, regs: Registers) -> Result<Rows, AllocError>
-    ensures { IfOk result (λ rows. rows ≡ flag_rows regs) }
+pub(crate) fn registers(
+    alloc: Global,
+    regs: Registers,
+    format: ValueFormat,
+) -> Result<Rows, AllocError>
+    ensures { IfOk result (λ rows. rows ≡ rows_of.register_rows format regs) }
 {
-    let mut rows = Sequence::new(alloc);
-    push_flags(alloc, &mut rows, regs)?;
-    Ok(rows)
+    let parts = [
+        ("A", RowValue::Byte(regs.a)),
+        ("B", RowValue::Byte(regs.b)),
+        ("C", RowValue::Byte(regs.c)),
+        ("D", RowValue::Byte(regs.d)),
+        ("E", RowValue::Byte(regs.e)),
+        ("H", RowValue::Byte(regs.h)),
+        ("L", RowValue::Byte(regs.l)),
+        ("SP", RowValue::Address(regs.sp)),
+        ("PC", RowValue::Address(regs.pc)),
+        ("BC", RowValue::Address(word_of(regs.b, regs.c))),
+        ("DE", RowValue::Address(word_of(regs.d, regs.e))),
+        ("HL", RowValue::Address(word_of(regs.h, regs.l))),
+        ("PSW", RowValue::Word(word_of(regs.a, regs.flags.to_byte()))),
+    ];
+    value_rows(alloc, format, &parts)
 }
 
-// ---- devices
+pub(crate) fn flags(alloc: Global, regs: Registers, format: ValueFormat) -> Result<Rows, AllocError>
+    ensures { IfOk result (λ rows. rows ≡ rows_of.flag_rows format regs) }
+{
+    let parts = [
+        ("S", RowValue::Flag(regs.flags.sign())),
+        ("Z", RowValue::Flag(regs.flags.zero())),
+        ("AC", RowValue::Flag(regs.flags.auxiliary_carry())),
+        ("P", RowValue::Flag(regs.flags.parity())),
+        ("CY", RowValue::Flag(regs.flags.carry())),
+        ("INTE", RowValue::Interrupts(regs.interrupts)),
+    ];
+    value_rows(alloc, format, &parts)
+}
 
-fn push_devices(alloc: Global, rows: &mut Rows, devices: &Devices) -> Result<(), AllocError>
-    requires { rows.old ≡ [] }
+pub(crate) fn devices(
+    alloc: Global,
+    devices: &Devices,
+    format: ValueFormat,
+) -> Result<Rows, AllocError>
     ensures { (past : List Operation) → RepresentsPast devices.now past
-        → OnOk result (rows.new ≡ device_rows (panel_after past)) }
+        → IfOk result (λ rows. rows ≡ rows_of.device_rows format (panel_after past)) }
 {
-    let switches = byte_text(alloc, devices.switches())?;
-    push_plain(alloc, rows, "switches", switches)?;
-    let lamps = byte_text(alloc, devices.lamps())?;
-    push_plain(alloc, rows, "lamps", lamps)?;
-    let latched = latched_text(alloc, devices.request())?;
-    push_plain(alloc, rows, "latched", latched)?;
-    let waiting = decimal(alloc, devices.bytes_waiting())?;
-    push_plain(alloc, rows, "waiting", waiting)
-}
-
-pub(crate) fn devices(alloc: Global, devices: &Devices) -> Result<Rows, AllocError>
-    ensures { (past : List Operation) → RepresentsPast devices.now past
-        → IfOk result (λ rows. rows ≡ device_rows (panel_after past)) }
-{
-    let mut rows = Sequence::new(alloc);
-    push_devices(alloc, &mut rows, devices)?;
-    Ok(rows)
+    let parts = [
+        ("switches", RowValue::Lines(devices.switches())),
+        ("lamps", RowValue::Lines(devices.lamps())),
+        ("latched", RowValue::Latched(devices.request())),
+        ("waiting", RowValue::Count(devices.bytes_waiting())),
+    ];
+    value_rows(alloc, format, &parts)
 }
 
 // ---- symbols and memory
 
-fn push_symbol(alloc: Global, rows: &mut Rows, name: &str, value: u16) -> Result<(), AllocError>
+fn push_symbol(
+    alloc: Global,
+    rows: &mut Rows,
+    format: ValueFormat,
+    name: &str,
+    symbol: Symbol,
+) -> Result<(), AllocError>
     ensures { OnOk result (rows.new
-        ≡ rows.old ++ row name.now (word_text value) (Some value) (Some name.now) ∷ []) }
+        ≡ rows.old ++ rows_of.symbol_row format (name.now, symbol) ∷ []) }
 {
+    let text = word_shown(alloc, format, symbol.value)?;
     let expression = Text::copy_of(alloc, name)?;
-    let text = word_text(alloc, value)?;
-    let value = ShownValue {
-        text,
-        memory: Some(value),
-    };
-    push(alloc, rows, name, value, Some(expression))
+    let name = Text::copy_of(alloc, name)?;
+    rows.push(EditorVariable {
+        name,
+        value: ShownValue {
+            text,
+            memory: Some(symbol.value),
+        },
+        expression: Some(expression),
+    })
 }
 
 /// `count` symbols from one on, in order of definition.
@@ -217,25 +210,32 @@ pub(crate) fn symbols(
     symbols: &Symbols,
     start: u32,
     count: u32,
+    format: ValueFormat,
 ) -> Result<Rows, AllocError>
-    ensures { IfOk result (λ rows. rows ≡ page start count (symbol_rows symbols.now)) }
+    ensures { IfOk result (λ rows. rows
+        ≡ map (rows_of.symbol_row format) (page start count symbols.now)) }
 {
     let end = end_of(start, count, symbols.len());
     let mut rows = Sequence::new(alloc);
     for index in start as usize..end {
         let (name, symbol) = symbol_at(symbols, index);
-        push_symbol(alloc, &mut rows, name, symbol.value)?;
+        push_symbol(alloc, &mut rows, format, name, symbol)?;
     }
     Ok(rows)
 }
 
-fn push_memory(alloc: Global, lab: &Lab, rows: &mut Rows, address: u16) -> Result<(), AllocError>
-    ensures { (b : Board) → RepresentsBoard lab.now b
-        → OnOk result (rows.new ≡ rows.old ++ memory_row b.machine address ∷ []) }
+/// Appends a row for what is at an address, whose expression begins so.
+pub(crate) fn push_at(
+    alloc: Global,
+    rows: &mut Rows,
+    front: &str,
+    text: Text,
+    address: u16,
+) -> Result<(), AllocError>
+    ensures { OnOk result (rows.new ≡ rows.old ++ rows_of.row_at front.now text address ∷ []) }
 {
     let name = address_text(alloc, address)?;
-    let text = byte_text(alloc, lab.peek(address))?;
-    let expression = byte_expression(alloc, address)?;
+    let expression = expression_at(alloc, front, address)?;
     rows.push(EditorVariable {
         name,
         value: ShownValue {
@@ -246,15 +246,35 @@ fn push_memory(alloc: Global, lab: &Lab, rows: &mut Rows, address: u16) -> Resul
     })
 }
 
-/// `count` bytes from an address on, but none past the last address.
-pub(crate) fn memory(alloc: Global, lab: &Lab, start: u32, count: u32) -> Result<Rows, AllocError>
+fn push_byte(
+    alloc: Global,
+    lab: &Lab,
+    rows: &mut Rows,
+    address: u16,
+    format: ValueFormat,
+) -> Result<(), AllocError>
     ensures { (b : Board) → RepresentsBoard lab.now b
-        → IfOk result (λ rows. rows ≡ memory_rows b.machine start count) }
+        → OnOk result (rows.new ≡ rows.old ++ rows_of.memory_row format b.machine address ∷ []) }
+{
+    let text = byte_shown(alloc, format, lab.peek(address))?;
+    push_at(alloc, rows, "[", text, address)
+}
+
+/// `count` bytes from an address on, but none past the last address.
+pub(crate) fn memory(
+    alloc: Global,
+    lab: &Lab,
+    start: u32,
+    count: u32,
+    format: ValueFormat,
+) -> Result<Rows, AllocError>
+    ensures { (b : Board) → RepresentsBoard lab.now b
+        → IfOk result (λ rows. rows ≡ rows_of.memory_rows format b.machine start count) }
 {
     let many = count.min(ADDRESSES.saturating_sub(start));
     let mut rows = Sequence::new(alloc);
     for offset in 0..many {
-        push_memory(alloc, lab, &mut rows, (start + offset) as u16)?;
+        push_byte(alloc, lab, &mut rows, (start + offset) as u16, format)?;
     }
     Ok(rows)
 }

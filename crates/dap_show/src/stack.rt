@@ -6,12 +6,11 @@ ghost use Rattle.lab_core.specs.Labs.{RepresentsBoard};
 ghost use Rattle.dap_show.specs.Stack as stack;
 
 use crate::frame::returns_to;
-use crate::rows::Rows;
-use crate::texts::{address_text, word_expression};
-use asm_syntax::numeral::push_word;
+use crate::rows::{Rows, push_at};
 use base_text::sequence::Sequence;
 use base_text::text::Text;
-use dap_messages::message::{EditorVariable, ShownValue};
+use dap_inspect::format::word_shown;
+use dap_messages::message::ValueFormat;
 use i80_rows::memory::MEMORY_SIZE;
 use lab_core::lab::Lab;
 use std::alloc::{AllocError, Global};
@@ -23,9 +22,7 @@ const ADDRESSES: u32 = MEMORY_SIZE as u32;
 fn word_at(lab: &Lab, address: u16) -> u16
     ensures { (b : Board) → RepresentsBoard lab.now b → result ≡ word_at b.machine address }
 {
-    let low = u16::from(lab.peek(address));
-    let high = u16::from(lab.peek(address.wrapping_add(1)));
-    high * 256 + low
+    u16::from_le_bytes([lab.peek(address), lab.peek(address.wrapping_add(1))])
 }
 
 /// The number of words that begin at SP or above it.
@@ -56,44 +53,57 @@ fn push_return(text: &mut String, name: Option<Text>) -> Result<(), AllocError>
     }
 }
 
-fn stack_text(alloc: Global, lab: &Lab, address: u16) -> Result<Text, AllocError>
+fn stack_text(
+    alloc: Global,
+    lab: &Lab,
+    address: u16,
+    format: ValueFormat,
+) -> Result<Text, AllocError>
     ensures { (b : Board) → RepresentsBoard lab.now b
-        → IfOk result (λ text. text ≡ stack.stack_text b address) }
+        → IfOk result (λ text. text ≡ stack.stack_text format b address) }
 {
     let name = returns_to(alloc, lab, address)?;
-    let mut text = String::new(alloc);
-    push_word(&mut text, word_at(lab, address))?;
+    let mut text = word_shown(alloc, format, word_at(lab, address))?.into_string();
     push_return(&mut text, name)?;
     Ok(Text::from(text))
 }
 
-fn push_word_row(alloc: Global, lab: &Lab, rows: &mut Rows, address: u16) -> Result<(), AllocError>
+fn push_word(
+    alloc: Global,
+    lab: &Lab,
+    rows: &mut Rows,
+    address: u16,
+    format: ValueFormat,
+) -> Result<(), AllocError>
     ensures { (b : Board) → RepresentsBoard lab.now b
-        → OnOk result (rows.new ≡ rows.old ++ stack.word_row b address ∷ []) }
+        → OnOk result (rows.new ≡ rows.old ++ stack.word_row format b address ∷ []) }
 {
-    let name = address_text(alloc, address)?;
-    let text = stack_text(alloc, lab, address)?;
-    let expression = word_expression(alloc, address)?;
-    rows.push(EditorVariable {
-        name,
-        value: ShownValue {
-            text,
-            memory: Some(address),
-        },
-        expression: Some(expression),
-    })
+    let text = stack_text(alloc, lab, address, format)?;
+    push_at(alloc, rows, "word[", text, address)
 }
 
 /// `count` words from an index on, but none past the last address.
-pub(crate) fn stack(alloc: Global, lab: &Lab, start: u32, count: u32) -> Result<Rows, AllocError>
+pub(crate) fn stack(
+    alloc: Global,
+    lab: &Lab,
+    start: u32,
+    count: u32,
+    format: ValueFormat,
+) -> Result<Rows, AllocError>
     ensures { (b : Board) → RepresentsBoard lab.now b
-        → IfOk result (λ rows. rows ≡ stack.stack_rows b start count) }
+        → IfOk result (λ rows. rows ≡ stack.stack_rows format b start count) }
 {
     let sp = lab.regs().sp;
     let many = count.min(stack_words(sp).saturating_sub(start));
     let mut rows = Sequence::new(alloc);
     for offset in 0..many {
-        push_word_row(alloc, lab, &mut rows, stack_address(sp, start + offset))?;
+        push_word(
+            alloc,
+            lab,
+            &mut rows,
+            stack_address(sp, start + offset),
+            format,
+        )?;
     }
     Ok(rows)
 }

@@ -1,18 +1,17 @@
 //! The symbols that have a part in their names, a line for each.
-ghost use Rattle.std.specs.Prelude.{◌≡◌, ◌∷◌, ◌++◌, IfOk, OnOk};
-ghost use Rattle.std.specs.String.{string_bytes};
+ghost use Rattle.std.specs.Prelude.{◌≡◌, [], ◌∷◌, ◌++◌, List, length, IfOk, OnOk, string_bytes};
+ghost use Rattle.base_text.specs.Bytes.{Bytes};
 ghost use Rattle.lab_core.specs.Board.{Board};
 ghost use Rattle.lab_core.specs.Labs.{RepresentsBoard};
 ghost use Rattle.dap_show.specs.Symbols as shown;
-ghost use Rattle.dap_show.specs.Symbols.{line_feed, symbols_with};
+ghost use Rattle.dap_show.specs.Symbols.{joined_lines, symbols_with};
 
 use crate::completion::begins_with;
-use crate::names::symbol_at;
 use asm_build::symbols::{Symbol, Symbols};
 use asm_syntax::numeral::push_word;
-use base_text::sequence::Sequence;
 use base_text::text::Text;
 use lab_core::lab::Lab;
+use lab_views::names::symbol_at;
 use std::alloc::{AllocError, Global};
 
 /// The most symbols that are shown.
@@ -30,70 +29,45 @@ fn has_part(name: &[u8], part: &[u8]) -> bool
     begins_with(&[], part)
 }
 
-fn symbol_line(alloc: Global, name: &str, symbol: Symbol) -> Result<Text, AllocError>
-    ensures { IfOk result (λ line. line ≡ shown.symbol_line (name.now, symbol)) }
+fn push_symbol(text: &mut String, name: &str, symbol: Symbol) -> Result<(), AllocError>
+    ensures { OnOk result (string_bytes text.new
+        ≡ string_bytes text.old ++ shown.symbol_line (name.now, symbol)) }
 {
-    let mut line = String::new(alloc);
-    line.push_str(name)?;
-    line.push_str(" ")?;
-    push_word(&mut line, symbol.value)?;
-    Ok(Text::from(line))
+    text.push_str(name)?;
+    text.push_str(" ")?;
+    push_word(text, symbol.value)
 }
 
-/// Appends a symbol's line if its name has the part, and there is room.
-fn push_symbol(
-    alloc: Global,
-    lines: &mut Sequence<Text>,
-    part: &[u8],
-    name: &str,
-    symbol: Symbol,
-) -> Result<(), AllocError>
-    ensures { OnOk result (lines.new ≡ shown.with_line part.now lines.old (name.now, symbol)) }
+/// Appends a symbol's line to so many lines.
+fn push_line(text: &mut String, count: usize, name: &str, symbol: Symbol) -> Result<(), AllocError>
+    ensures { (lines : List Bytes) → count ≡ length lines → string_bytes text.old ≡ joined_lines lines
+        → OnOk result (string_bytes text.new
+        ≡ joined_lines (lines ++ shown.symbol_line (name.now, symbol) ∷ [])) }
 {
-    if has_part(name.as_bytes(), part) && lines.len() < MOST {
-        let line = symbol_line(alloc, name, symbol)?;
-        return lines.push(line);
+    if count == 0 {
+        return push_symbol(text, name, symbol);
     }
-    Ok(())
+    text.push_str("\n")?;
+    push_symbol(text, name, symbol)
 }
 
-fn lines_with(alloc: Global, symbols: &Symbols, part: &[u8]) -> Result<Sequence<Text>, AllocError>
-    ensures { IfOk result (λ lines. lines ≡ shown.lines_with symbols.now part.now) }
+fn text_with(alloc: Global, symbols: &Symbols, part: &[u8]) -> Result<Text, AllocError>
+    ensures { IfOk result (λ text. text ≡ shown.text_with symbols.now part.now) }
 {
-    let mut lines = Sequence::new(alloc);
+    let mut text = String::new(alloc);
+    let mut count = 0;
     for index in 0..symbols.len() {
         let (name, symbol) = symbol_at(symbols, index);
-        push_symbol(alloc, &mut lines, part, name, symbol)?;
-    }
-    Ok(lines)
-}
-
-// ---- lines together
-
-fn push_line(text: &mut String, line: &str) -> Result<(), AllocError>
-    ensures { OnOk result (string_bytes text.new ≡ string_bytes text.old ++ line_feed ∷ line.now) }
-{
-    text.push_str("\n")?;
-    text.push_str(line)
-}
-
-fn joined_from(alloc: Global, first: &str, others: &[Text]) -> Result<Text, AllocError>
-    ensures { IfOk result (λ text. text ≡ shown.joined_lines (first.now ∷ others.now)) }
-{
-    let mut text = String::from_str(alloc, first)?;
-    for line in others {
-        push_line(&mut text, line.as_str())?;
+        if !has_part(name.as_bytes(), part) {
+            continue;
+        }
+        if count == MOST {
+            return Ok(Text::from(text));
+        }
+        push_line(&mut text, count, name, symbol)?;
+        count += 1;
     }
     Ok(Text::from(text))
-}
-
-fn joined(alloc: Global, lines: &[Text]) -> Result<Text, AllocError>
-    ensures { IfOk result (λ text. text ≡ shown.joined_lines lines.now) }
-{
-    match lines.split_first() {
-        None => Text::copy_of(alloc, ""),
-        Some((first, others)) => joined_from(alloc, first.as_str(), others),
-    }
 }
 
 /// The program's symbols whose names have a part, at most 256, in order of definition: on a line each, the
@@ -102,6 +76,5 @@ pub fn symbols_text(alloc: Global, lab: &Lab, part: &str) -> Result<Text, AllocE
     ensures { (b : Board) → RepresentsBoard lab.now b
         → IfOk result (λ text. text ≡ symbols_with b part.now) }
 {
-    let lines = lines_with(alloc, lab.symbols(), part.as_bytes())?;
-    joined(alloc, lines.as_slice())
+    text_with(alloc, lab.symbols(), part.as_bytes())
 }

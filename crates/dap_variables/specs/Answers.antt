@@ -17,6 +17,7 @@ use Rattle.dap_messages.specs.declared.message.EditorOutcome.{EditorOutcome}
 use Rattle.dap_messages.specs.declared.message.EditorOutcome.TheVariants.{Success, Refused}
 use Rattle.dap_messages.specs.declared.message.EditorVariable.{EditorVariable}
 use Rattle.dap_messages.specs.declared.message.ShownValue.{ShownValue}
+use Rattle.dap_messages.specs.declared.message.ValueFormat.{ValueFormat}
 use Rattle.dap_editor.specs.declared.request.VariablesCommand.{VariablesCommand}
 use Rattle.dap_editor.specs.declared.request.VariablesCommand.TheVariants as command
 use Rattle.dap_look.specs.declared.fault.LookFault.{LookFault}
@@ -30,6 +31,8 @@ use Rattle.dap_show.specs.Completions.{completions_on}
 use Rattle.dap_show.specs.Scopes.{variables_on, sizes_on}
 use Rattle.dap_show.specs.Symbols.{symbols_with}
 use Rattle.dap_program.specs.Refusals.{board_refusal}
+use Rattle.dap_variables.specs.declared.answer.VariablesAnswer.{VariablesAnswer}
+use Rattle.dap_variables.specs.declared.answer.VariablesAnswer.TheVariants.{Outcome, Change}
 
 -- ---- expressions
 
@@ -46,19 +49,23 @@ value_outcome (Ok value) = Success (body.Evaluation value)
 value_outcome (Err fault) = Refused (message_of fault)
 
 -- the value of an expression
-abbrev pub evaluation : Board → Text → EditorOutcome
-evaluation b expression = value_outcome (evaluation_of b expression)
+abbrev pub evaluation : Board → Text → ValueFormat → EditorOutcome
+evaluation b expression format = value_outcome (evaluation_of b expression format)
 
 -- ---- the prompt
 
 abbrev pub symbols_word : Text
 symbols_word = codes "symbols"
 
--- a line of the prompt may ask for the symbols in whose names a part stands, or for all
-abbrev pub part_behind : Text → Option Text
-part_behind [] = Some []
-part_behind (c ∷ part) = if c == space then Some (trim part) else None
+-- a word ends before this
+abbrev pub ends_word : Text → Bool
+ends_word [] = true
+ends_word (c ∷ more) = c == space
 
+abbrev pub part_behind : Text → Option Text
+part_behind rest = if ends_word rest then Some (trim rest) else None
+
+-- a line of the prompt may ask for the symbols in whose names a part stands, or for all
 abbrev pub part_asked : Text → Option Text
 part_asked line =
     if bytes_eq (take (length symbols_word) line) symbols_word
@@ -68,54 +75,69 @@ part_asked line =
 abbrev pub symbols_value : Board → Text → ShownValue
 symbols_value b part = record { text = symbols_with b part; memory = None }
 
-abbrev pub prompt_outcome : Option Text → Text → Board → EditorOutcome
-prompt_outcome (Some part) line b = Success (body.Evaluation (symbols_value b part))
-prompt_outcome None line b = evaluation b line
+abbrev pub symbols_outcome : Board → Text → EditorOutcome
+symbols_outcome b part = Success (body.Evaluation (symbols_value b part))
+
+abbrev pub prompt_outcome : Option Text → Text → Board → ValueFormat → EditorOutcome
+prompt_outcome (Some part) line b format = symbols_outcome b part
+prompt_outcome None line b format = evaluation b line format
 
 -- what a line of the prompt shows that is no command of the board
-abbrev pub prompt_evaluation : Board → Text → EditorOutcome
-prompt_evaluation b line = prompt_outcome (part_asked line) line b
+abbrev pub prompt_evaluation : Board → Text → ValueFormat → EditorOutcome
+prompt_evaluation b line format = prompt_outcome (part_asked line) line b format
 
--- ---- variables
+-- ---- scopes, variables and completions
+
+abbrev pub refusal_of : EventFault → VariablesAnswer
+refusal_of fault = Outcome (Refused (board_refusal fault))
+
+abbrev pub success_of : EditorBody → VariablesAnswer
+success_of body = Outcome (Success body)
 
 abbrev pub sizes_body : ScopeSizes → EditorBody
 sizes_body sizes = body.Scopes sizes.symbols sizes.words
 
 -- a frame of a stopped run has scopes
-abbrev pub scopes_if : Bool → Board → EditorOutcome
-scopes_if true b = Success (sizes_body (sizes_on b))
-scopes_if false b = Refused (board_refusal BadFrame)
+abbrev pub scopes_if : Bool → Board → VariablesAnswer
+scopes_if true b = success_of (sizes_body (sizes_on b))
+scopes_if false b = refusal_of BadFrame
 
 -- the frames of a run are its live ones, and the main program
 abbrev pub has_frame : ℕ → Board → Bool
 has_frame frame b = nat_le 1 frame && nat_le frame (length (live b.trace) + 1)
 
-abbrev pub scopes_outcome : RunState → ℕ → Board → EditorOutcome
-scopes_outcome NoRun frame b = Refused (board_refusal NotStopped)
-scopes_outcome Running frame b = Refused (board_refusal NotStopped)
-scopes_outcome Stopped frame b = scopes_if (has_frame frame b) b
+abbrev pub scopes_answer : RunState → ℕ → Board → VariablesAnswer
+scopes_answer NoRun frame b = refusal_of NotStopped
+scopes_answer Running frame b = refusal_of NotStopped
+scopes_answer Stopped frame b = scopes_if (has_frame frame b) b
 
-abbrev pub rows_outcome : Result (List EditorVariable) EventFault → EditorOutcome
-rows_outcome (Ok rows) = Success (body.Variables rows)
-rows_outcome (Err fault) = Refused (board_refusal fault)
+abbrev pub rows_answer : Result (List EditorVariable) EventFault → VariablesAnswer
+rows_answer (Ok rows) = success_of (body.Variables rows)
+rows_answer (Err fault) = refusal_of fault
 
 abbrev pub completions_body : Completions → EditorBody
 completions_body c = body.Completions c.items c.start c.length
 
--- what is shown
-abbrev pub variables_outcome : VariablesCommand → Board → EditorOutcome
-variables_outcome (command.Scopes frame) b = scopes_outcome b.run frame b
-variables_outcome (command.Variables reference start count) b =
-    rows_outcome (variables_on b reference start count)
-variables_outcome (command.Completions text column) b =
-    Success (completions_body (completions_on b text column))
-variables_outcome other b = Refused (codes "unknown command")
+abbrev pub completions_answer : Board → Text → ℕ → VariablesAnswer
+completions_answer b text column = success_of (completions_body (completions_on b text column))
 
--- ---- changes
+-- ---- answers to commands
 
--- the value that is set, or why it can't be; nothing if no value is to be set
+-- what a command shows, or the value that it sets
+abbrev pub variables_answer : VariablesCommand → Board → VariablesAnswer
+variables_answer (command.Scopes frame) b = scopes_answer b.run frame b
+variables_answer (command.Variables reference start count format) b =
+    rows_answer (variables_on b reference start count format)
+variables_answer (command.Completions text column) b = completions_answer b text column
+variables_answer (command.SetVariable reference name value format) b =
+    Change (or_message (variable_set b reference name value format))
+variables_answer (command.SetExpression expression value format) b =
+    Change (or_message (expression_set b expression value format))
+
+abbrev pub change_in : VariablesAnswer → Option (Result SetValue Text)
+change_in (Outcome outcome) = None
+change_in (Change set) = Some set
+
+-- the value that a command sets, or why it can't be set; nothing if the command sets none
 abbrev pub value_set : VariablesCommand → Board → Option (Result SetValue Text)
-value_set (command.SetVariable reference name value) b =
-    Some (or_message (variable_set b reference name value))
-value_set (command.SetExpression expression value) b = Some (or_message (expression_set b expression value))
-value_set other b = None
+value_set c b = change_in (variables_answer c b)

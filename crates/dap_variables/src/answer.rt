@@ -1,9 +1,7 @@
 //! Answers to requests for values and variables.
-ghost use Rattle.std.specs.Prelude.{◌≡◌, ◌≢◌, Err, IfOk, option_map};
+ghost use Rattle.std.specs.Prelude.{◌≡◌, ◌≢◌, Err, Some, IfOk, option_map};
 ghost use Rattle.lab_core.specs.Board.{Board};
 ghost use Rattle.lab_core.specs.Labs.{RepresentsBoard};
-ghost use Rattle.dap_program.specs.Refusals.{board_refusal};
-ghost use Rattle.dap_look.specs.Faults.{message_of};
 ghost use Rattle.dap_variables.specs.Answers as answers;
 
 use base_text::sequence::Sequence;
@@ -12,7 +10,7 @@ use dap_editor::request::VariablesCommand;
 use dap_look::change::{SetValue, set_expression, set_variable};
 use dap_look::evaluation::evaluate;
 use dap_look::fault::LookFault;
-use dap_messages::message::{EditorBody, EditorOutcome, EditorVariable, ShownValue};
+use dap_messages::message::{EditorBody, EditorOutcome, EditorVariable, ShownValue, ValueFormat};
 use dap_program::refusals::board_refusal;
 use dap_show::completion::{Completions, complete};
 use dap_show::scopes::{sizes, variables};
@@ -32,26 +30,20 @@ pub fn done_value(alloc: Global) -> Result<ShownValue, AllocError>
 
 // ---- expressions
 
-// Why there is no value. Running out of memory is an error of its own.
-fn message_of(alloc: Global, fault: LookFault) -> Result<Text, AllocError>
-    ensures message { IfOk result (λ text. text ≡ message_of fault) }
-    ensures other { IfOk result (λ _. fault ≢ LookFault.OutOfMemory) }
-{
-    if matches!(fault, LookFault::OutOfMemory) {
-        return Err(AllocError);
-    }
-    fault.message(alloc)
-}
-
 /// The value of an expression, or why it has none.
-pub fn evaluation(alloc: Global, lab: &Lab, expression: &str) -> Result<EditorOutcome, AllocError>
+pub fn evaluation(
+    alloc: Global,
+    lab: &Lab,
+    expression: &str,
+    format: ValueFormat,
+) -> Result<EditorOutcome, AllocError>
     ensures { (b : Board) → RepresentsBoard lab.now b
-        → IfOk result (λ outcome. outcome ≡ answers.evaluation b expression.now) }
+        → IfOk result (λ outcome. outcome ≡ answers.evaluation b expression.now format) }
 {
-    match evaluate(alloc, lab, expression) {
+    match evaluate(alloc, lab, expression, format) {
         Ok(value) => Ok(EditorOutcome::Success(EditorBody::Evaluation(value))),
         Err(fault) => {
-            let message = message_of(alloc, fault)?;
+            let message = fault.message(alloc)?;
             Ok(EditorOutcome::Refused(message))
         }
     }
@@ -63,12 +55,9 @@ pub fn evaluation(alloc: Global, lab: &Lab, expression: &str) -> Result<EditorOu
 fn part_behind(rest: &str) -> Option<&str>
     ensures { option_map (λ part. part.now) result ≡ answers.part_behind rest.now }
 {
-    if rest.is_empty() {
-        return Some("");
-    }
-    match rest.strip_prefix(" ") {
-        Some(part) => Some(part.trim()),
-        None => None,
+    match rest.as_bytes() {
+        [] | [b' ', ..] => Some(rest.trim()),
+        _ => None,
     }
 }
 
@@ -82,125 +71,30 @@ fn part_asked(line: &str) -> Option<&str>
     }
 }
 
-fn symbols_value(alloc: Global, lab: &Lab, part: &str) -> Result<ShownValue, AllocError>
+fn symbols_outcome(alloc: Global, lab: &Lab, part: &str) -> Result<EditorOutcome, AllocError>
     ensures { (b : Board) → RepresentsBoard lab.now b
-        → IfOk result (λ value. value ≡ answers.symbols_value b part.now) }
+        → IfOk result (λ outcome. outcome ≡ answers.symbols_outcome b part.now) }
 {
     let text = symbols_text(alloc, lab, part)?;
-    Ok(ShownValue { text, memory: None })
+    let value = ShownValue { text, memory: None };
+    Ok(EditorOutcome::Success(EditorBody::Evaluation(value)))
 }
 
 /// What a line of the debugger's prompt shows that is no command of the board: `symbols PART` the symbols in
-/// whose names the part stands, anything else its value as an expression.
-pub fn prompt_evaluation(alloc: Global, lab: &Lab, line: &str) -> Result<EditorOutcome, AllocError>
-    ensures { (b : Board) → RepresentsBoard lab.now b
-        → IfOk result (λ outcome. outcome ≡ answers.prompt_evaluation b line.now) }
-{
-    match part_asked(line) {
-        Some(part) => {
-            let value = symbols_value(alloc, lab, part)?;
-            Ok(EditorOutcome::Success(EditorBody::Evaluation(value)))
-        }
-        None => evaluation(alloc, lab, line),
-    }
-}
-
-// ---- variables
-
-// A refusal of the board. Running out of memory is an error of its own.
-fn refused(alloc: Global, fault: EventFault) -> Result<EditorOutcome, AllocError>
-    ensures refused { IfOk result (λ outcome. outcome ≡ EditorOutcome.Refused (board_refusal fault)) }
-    ensures other { IfOk result (λ _. fault ≢ EventFault.OutOfMemory) }
-{
-    if matches!(fault, EventFault::OutOfMemory) {
-        return Err(AllocError);
-    }
-    let text = Text::copy_of(alloc, board_refusal(fault))?;
-    Ok(EditorOutcome::Refused(text))
-}
-
-fn has_frame(lab: &Lab, frame: u32) -> bool
-    ensures { (b : Board) → RepresentsBoard lab.now b → result ≡ answers.has_frame frame b }
-{
-    1 <= frame && frame as usize <= lab.frames().len() + 1
-}
-
-fn scopes_if(alloc: Global, lab: &Lab, is_there: bool) -> Result<EditorOutcome, AllocError>
-    ensures { (b : Board) → RepresentsBoard lab.now b
-        → IfOk result (λ outcome. outcome ≡ answers.scopes_if is_there b) }
-{
-    if !is_there {
-        return refused(alloc, EventFault::BadFrame);
-    }
-    let sizes = sizes(lab);
-    Ok(EditorOutcome::Success(EditorBody::Scopes {
-        symbols: sizes.symbols,
-        words: sizes.words,
-    }))
-}
-
-fn scopes(alloc: Global, lab: &Lab, frame: u32) -> Result<EditorOutcome, AllocError>
-    ensures { (b : Board) → RepresentsBoard lab.now b
-        → IfOk result (λ outcome. outcome ≡ answers.scopes_outcome b.run frame b) }
-{
-    match lab.run_state() {
-        RunState::NoRun | RunState::Running => refused(alloc, EventFault::NotStopped),
-        RunState::Stopped => scopes_if(alloc, lab, has_frame(lab, frame)),
-    }
-}
-
-fn rows(
-    alloc: Global,
-    found: Result<Sequence<EditorVariable>, EventFault>,
-) -> Result<EditorOutcome, AllocError>
-    ensures outcome { IfOk result (λ outcome. outcome ≡ answers.rows_outcome found) }
-    ensures other { IfOk result (λ _. found ≢ Err EventFault.OutOfMemory) }
-{
-    match found {
-        Ok(rows) => Ok(EditorOutcome::Success(EditorBody::Variables(rows))),
-        Err(fault) => refused(alloc, fault),
-    }
-}
-
-fn completed(found: Completions) -> EditorOutcome
-    ensures { result ≡ EditorOutcome.Success (answers.completions_body found) }
-{
-    let Completions {
-        items,
-        start,
-        length,
-    } = found;
-    EditorOutcome::Success(EditorBody::Completions {
-        items,
-        start,
-        length,
-    })
-}
-
-/// What is shown of variables, or why it isn't.
-pub fn variables_outcome(
+/// whose names the part stands, anything else its value as an expression. Symbols are in hexadecimal,
+/// whatever the format.
+pub fn prompt_evaluation(
     alloc: Global,
     lab: &Lab,
-    command: &VariablesCommand,
+    line: &str,
+    format: ValueFormat,
 ) -> Result<EditorOutcome, AllocError>
     ensures { (b : Board) → RepresentsBoard lab.now b
-        → IfOk result (λ outcome. outcome ≡ answers.variables_outcome command.now b) }
+        → IfOk result (λ outcome. outcome ≡ answers.prompt_evaluation b line.now format) }
 {
-    match command {
-        VariablesCommand::Scopes { frame } => scopes(alloc, lab, *frame),
-        VariablesCommand::Variables {
-            reference,
-            start,
-            count,
-        } => rows(alloc, variables(alloc, lab, *reference, *start, *count)),
-        VariablesCommand::Completions { text, column } => {
-            let found = complete(alloc, lab, text.as_str(), *column)?;
-            Ok(completed(found))
-        }
-        _ => {
-            let text = Text::copy_of(alloc, "unknown command")?;
-            Ok(EditorOutcome::Refused(text))
-        }
+    match part_asked(line) {
+        Some(part) => symbols_outcome(alloc, lab, part),
+        None => evaluation(alloc, lab, line, format),
     }
 }
 
@@ -209,20 +103,20 @@ pub fn variables_outcome(
 fn or_message(
     alloc: Global,
     set: Result<SetValue, LookFault>,
-) -> Result<Result<SetValue, Text>, AllocError>
-    ensures set { IfOk result (λ found. found ≡ answers.or_message set) }
+) -> Result<Option<Result<SetValue, Text>>, AllocError>
+    ensures set { IfOk result (λ found. found ≡ Some (answers.or_message set)) }
     ensures other { IfOk result (λ _. set ≢ Err LookFault.OutOfMemory) }
 {
     match set {
-        Ok(set) => Ok(Ok(set)),
+        Ok(set) => Ok(Some(Ok(set))),
         Err(fault) => {
-            let message = message_of(alloc, fault)?;
-            Ok(Err(message))
+            let message = fault.message(alloc)?;
+            Ok(Some(Err(message)))
         }
     }
 }
 
-/// The value that a command sets, or why it can't; `None` if the command sets none.
+/// The value that a command sets, or why it can't be set; `None` if the command sets none.
 pub fn value_set(
     alloc: Global,
     lab: &Lab,
@@ -236,16 +130,158 @@ pub fn value_set(
             reference,
             name,
             value,
+            format,
         } => {
-            let set = set_variable(alloc, lab, *reference, name.as_str(), value.as_str());
-            let set = or_message(alloc, set)?;
-            Ok(Some(set))
+            let name = name.as_str();
+            let set = set_variable(alloc, lab, *reference, name, value.as_str(), *format);
+            or_message(alloc, set)
         }
-        VariablesCommand::SetExpression { expression, value } => {
-            let set = set_expression(alloc, lab, expression.as_str(), value.as_str());
-            let set = or_message(alloc, set)?;
-            Ok(Some(set))
+        VariablesCommand::SetExpression {
+            expression,
+            value,
+            format,
+        } => {
+            let set = set_expression(alloc, lab, expression.as_str(), value.as_str(), *format);
+            or_message(alloc, set)
         }
         _ => Ok(None),
+    }
+}
+
+// ---- answers to commands
+
+/// What a command shows, or the value that it sets.
+#[derive(Drop)]
+pub enum VariablesAnswer {
+    Outcome(EditorOutcome),
+    /// The value, or why it can't be set.
+    Change(Result<SetValue, Text>),
+}
+
+// A refusal of the board. Running out of memory is an error of its own.
+fn refusal_of(alloc: Global, fault: EventFault) -> Result<VariablesAnswer, AllocError>
+    ensures refused { IfOk result (λ answer. answer ≡ answers.refusal_of fault) }
+    ensures other { IfOk result (λ _. fault ≢ EventFault.OutOfMemory) }
+{
+    if matches!(fault, EventFault::OutOfMemory) {
+        return Err(AllocError);
+    }
+    let text = Text::copy_of(alloc, board_refusal(fault))?;
+    Ok(VariablesAnswer::Outcome(EditorOutcome::Refused(text)))
+}
+
+fn has_frame(lab: &Lab, frame: u32) -> bool
+    ensures { (b : Board) → RepresentsBoard lab.now b → result ≡ answers.has_frame frame b }
+{
+    1 <= frame && frame as usize <= lab.frames().len() + 1
+}
+
+fn scopes(alloc: Global, lab: &Lab, frame: u32) -> Result<VariablesAnswer, AllocError>
+    ensures { (b : Board) → RepresentsBoard lab.now b
+        → IfOk result (λ answer. answer ≡ answers.scopes_answer b.run frame b) }
+{
+    if !matches!(lab.run_state(), RunState::Stopped) {
+        return refusal_of(alloc, EventFault::NotStopped);
+    }
+    if !has_frame(lab, frame) {
+        return refusal_of(alloc, EventFault::BadFrame);
+    }
+    let sizes = sizes(lab);
+    Ok(VariablesAnswer::Outcome(EditorOutcome::Success(EditorBody::Scopes {
+        symbols: sizes.symbols,
+        words: sizes.words,
+    })))
+}
+
+fn rows(
+    alloc: Global,
+    found: Result<Sequence<EditorVariable>, EventFault>,
+) -> Result<VariablesAnswer, AllocError>
+    ensures answer { IfOk result (λ answer. answer ≡ answers.rows_answer found) }
+    ensures other { IfOk result (λ _. found ≢ Err EventFault.OutOfMemory) }
+{
+    match found {
+        Ok(rows) => Ok(VariablesAnswer::Outcome(EditorOutcome::Success(EditorBody::Variables(
+            rows,
+        )))),
+        Err(fault) => refusal_of(alloc, fault),
+    }
+}
+
+fn completions(
+    alloc: Global,
+    lab: &Lab,
+    text: &str,
+    column: u32,
+) -> Result<VariablesAnswer, AllocError>
+    ensures { (b : Board) → RepresentsBoard lab.now b
+        → IfOk result (λ answer. answer ≡ answers.completions_answer b text.now column) }
+{
+    let Completions {
+        items,
+        start,
+        length,
+    } = complete(alloc, lab, text, column)?;
+    Ok(VariablesAnswer::Outcome(EditorOutcome::Success(EditorBody::Completions {
+        items,
+        start,
+        length,
+    })))
+}
+
+fn change(alloc: Global, set: Result<SetValue, LookFault>) -> Result<VariablesAnswer, AllocError>
+    ensures change { IfOk result (λ answer. answer ≡ VariablesAnswer.Change (answers.or_message set)) }
+    ensures other { IfOk result (λ _. set ≢ Err LookFault.OutOfMemory) }
+{
+    match set {
+        Ok(set) => Ok(VariablesAnswer::Change(Ok(set))),
+        Err(fault) => {
+            let message = fault.message(alloc)?;
+            Ok(VariablesAnswer::Change(Err(message)))
+        }
+    }
+}
+
+/// What a command shows of a board, or the value that it sets.
+pub fn variables_answer(
+    alloc: Global,
+    lab: &Lab,
+    command: &VariablesCommand,
+) -> Result<VariablesAnswer, AllocError>
+    ensures { (b : Board) → RepresentsBoard lab.now b
+        → IfOk result (λ answer. answer ≡ answers.variables_answer command.now b) }
+{
+    match command {
+        VariablesCommand::Scopes { frame } => scopes(alloc, lab, *frame),
+        VariablesCommand::Variables {
+            reference,
+            start,
+            count,
+            format,
+        } => {
+            let found = variables(alloc, lab, *reference, *start, *count, *format);
+            rows(alloc, found)
+        }
+        VariablesCommand::Completions { text, column } => {
+            completions(alloc, lab, text.as_str(), *column)
+        }
+        VariablesCommand::SetVariable {
+            reference,
+            name,
+            value,
+            format,
+        } => {
+            let name = name.as_str();
+            let found = set_variable(alloc, lab, *reference, name, value.as_str(), *format);
+            change(alloc, found)
+        }
+        VariablesCommand::SetExpression {
+            expression,
+            value,
+            format,
+        } => {
+            let found = set_expression(alloc, lab, expression.as_str(), value.as_str(), *format);
+            change(alloc, found)
+        }
     }
 }

@@ -13,12 +13,12 @@ use dap_editor::request::{EvaluateContext, VariablesCommand};
 use dap_inputs::prompt::{PromptCommand, prompt_command};
 use dap_launch::reply::{Reply, succeed};
 use dap_look::change::SetValue;
-use dap_messages::message::{EditorBody, EditorOutcome};
+use dap_messages::message::{EditorBody, EditorOutcome, ValueFormat};
 use dap_program::messages::FollowUp;
 use dap_program::refusals::board_refusal;
 use dap_talk::command::DapCommand;
 use dap_variables::answer::{
-    done_value, evaluation, prompt_evaluation, value_set, variables_outcome,
+    VariablesAnswer, done_value, evaluation, prompt_evaluation, variables_answer,
 };
 use lab_core::fault::EventFault;
 use std::alloc::{AllocError, Global};
@@ -29,21 +29,28 @@ impl Session {
         alloc: Global,
         expression: &str,
         context: EvaluateContext,
+        format: ValueFormat,
     ) -> Result<Reply, AllocError>
-        ensures { RepliesAs (evaluating expression.now context) self.old result self.new }
+        ensures { RepliesAs (evaluating expression.now context format) self.old result self.new }
     {
         match context {
-            EvaluateContext::Repl => self.evaluate_line(alloc, expression),
+            EvaluateContext::Repl => self.evaluate_line(alloc, expression, format),
             EvaluateContext::Watch | EvaluateContext::Other => Ok(Reply {
-                outcome: evaluation(alloc, &self.lab, expression)?,
+                outcome: evaluation(alloc, &self.lab, expression, format)?,
                 follow: FollowUp::Nothing,
             }),
         }
     }
 
     // Does what a line of the prompt asks for.
-    fn evaluate_line(&mut self, alloc: Global, line: &str) -> Result<Reply, AllocError>
-        ensures { RepliesAs (λ s. prompting (prompt_command line.now) line.now s) self.old result self.new }
+    fn evaluate_line(
+        &mut self,
+        alloc: Global,
+        line: &str,
+        format: ValueFormat,
+    ) -> Result<Reply, AllocError>
+        ensures { RepliesAs (λ s. prompting (prompt_command line.now) line.now format s)
+            self.old result self.new }
     {
         match prompt_command(alloc, line)? {
             PromptCommand::Board(command) => {
@@ -56,7 +63,7 @@ impl Session {
                 "a number from 0 to 255 must follow",
             ),
             PromptCommand::Evaluate => Ok(Reply {
-                outcome: prompt_evaluation(alloc, &self.lab, line)?,
+                outcome: prompt_evaluation(alloc, &self.lab, line, format)?,
                 follow: FollowUp::Nothing,
             }),
         }
@@ -87,12 +94,12 @@ impl Session {
     ) -> Result<Reply, AllocError>
         ensures { RepliesAs (handling command.now) self.old result self.new }
     {
-        match value_set(alloc, &self.lab, command)? {
-            Some(set) => self.set(alloc, set),
-            None => Ok(Reply {
-                outcome: variables_outcome(alloc, &self.lab, command)?,
+        match variables_answer(alloc, &self.lab, command)? {
+            VariablesAnswer::Outcome(outcome) => Ok(Reply {
+                outcome,
                 follow: FollowUp::Nothing,
             }),
+            VariablesAnswer::Change(set) => self.set(alloc, set),
         }
     }
 

@@ -3,20 +3,20 @@ ghost use Rattle.std.specs.Prelude.{◌≡◌, true, IfOk};
 ghost use Rattle.dap_program.specs.Bounds as bounds;
 ghost use Rattle.dap_session.specs.Memory.{first_line, memory_at, is_stopped};
 ghost use Rattle.dap_session.specs.Memory.{writing_from, writing};
-ghost use Rattle.dap_session.specs.Requests.{reading, disassembling, editing_memory};
+ghost use Rattle.dap_session.specs.Requests.{reading, disassembling_from, editing_memory};
 ghost use Rattle.dap_session.specs.States.{SessionState};
 ghost use Rattle.dap_session.specs.Represents.{RepresentsSession, RepliesAs};
 
 use crate::session::Session;
 use base_text::sequence::Bytes;
-use dap_answers::answer::Body;
-use dap_editor::request::{EditorCommand, RequestContent, SignedOffset};
+use dap_arguments::offset::SignedOffset;
+use dap_editor::request::{EditorCommand, RequestContent};
 use dap_inspect::before::before_instructions;
-use dap_inspect::listing::code_lines;
+use dap_inspect::disassembly::instructions;
 use dap_inspect::memory::read_memory;
 use dap_launch::reply::{Reply, succeed};
-use dap_messages::message::EditorBody;
-use dap_program::memory::{address_at, wrapped_at, writable};
+use dap_messages::message::{EditorBody, OperandStyle};
+use dap_program::memory::{address_at, far_address, wrapped_at, writable};
 use dap_program::messages::FollowUp;
 use dap_program::refusals::board_refusal;
 use lab_core::fault::EventFault;
@@ -24,22 +24,21 @@ use lab_core::run_state::RunState;
 use std::alloc::{AllocError, Global};
 
 impl Session {
-    // At most `count` bytes from an address on; without a start all are unreadable.
+    // At most `count` bytes from a start on; without one all are unreadable, from `far` on.
     fn memory_at(
         &self,
         alloc: Global,
         start: Option<u16>,
-        address: u16,
+        far: i64,
         count: u32,
     ) -> Result<EditorBody, AllocError>
         ensures { (s : SessionState) → RepresentsSession self.now s
-            → IfOk result (λ body. body ≡ memory_at start address count s.board.machine) }
+            → IfOk result (λ body. body ≡ memory_at start far count s.board.machine) }
     {
         match start {
-            None => Ok(EditorBody::Memory {
-                address,
-                bytes: Bytes::new(alloc),
-                unreadable: count,
+            None => Ok(EditorBody::NoMemory {
+                address: far,
+                count,
             }),
             Some(start) => {
                 let bytes = read_memory(alloc, &self.lab, start, count)?;
@@ -62,7 +61,8 @@ impl Session {
     ) -> Result<Reply, AllocError>
         ensures { RepliesAs (reading address offset count) self.old result self.new }
     {
-        let body = self.memory_at(alloc, address_at(address, offset), address, count)?;
+        let far = far_address(address, offset);
+        let body = self.memory_at(alloc, address_at(address, offset), far, count)?;
         Ok(succeed(body, FollowUp::Nothing))
     }
 
@@ -81,18 +81,22 @@ impl Session {
     fn disassemble(
         &mut self,
         alloc: Global,
-        address: u16,
-        offset: SignedOffset,
+        from: u16,
         instruction_offset: SignedOffset,
         count: u16,
+        operands: OperandStyle,
     ) -> Result<Reply, AllocError>
         requires { bounds.is_near instruction_offset ≡ true }
-        ensures { RepliesAs (disassembling address offset instruction_offset count) self.old result self.new }
+        ensures { RepliesAs (disassembling_from from instruction_offset count operands)
+            self.old result self.new }
     {
-        let start = self.first_line(wrapped_at(address, offset), instruction_offset);
-        let lines = code_lines(alloc, &self.lab, start, count)?;
-        let body = EditorBody::Board(Body::Instructions(lines));
-        Ok(succeed(body, FollowUp::Nothing))
+        let start = self.first_line(from, instruction_offset);
+        let path = match &self.settings.program {
+            None => "",
+            Some(program) => program.launch.program.as_str(),
+        };
+        let lines = instructions(alloc, &self.lab, path, start, count, operands)?;
+        Ok(succeed(EditorBody::Instructions(lines), FollowUp::Nothing))
     }
 
     pub fn is_stopped(&self) -> bool
@@ -163,15 +167,14 @@ impl Session {
                 offset,
                 instruction_offset,
                 instruction_count,
-            } => {
-                self.disassemble(
-                    alloc,
-                    *address,
-                    *offset,
-                    *instruction_offset,
-                    *instruction_count,
-                )
-            }
+                operands,
+            } => self.disassemble(
+                alloc,
+                wrapped_at(*address, *offset),
+                *instruction_offset,
+                *instruction_count,
+                *operands,
+            ),
             EditorCommand::GotoTargets { path, line } => Ok(self.find_target(path, *line)),
             EditorCommand::Goto { target } => self.go_to(alloc, *target),
             EditorCommand::Variables(command) => self.handle(alloc, command),

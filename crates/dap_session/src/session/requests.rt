@@ -20,7 +20,8 @@ use dap_board::perform::perform;
 use dap_editor::request::{EditorCommand, ExceptionFilters, RequestContent, SupportedEvents};
 use dap_launch::life::{end_of, end_program, exception_of, is_live};
 use dap_launch::reply::{Reply, accept, refuse, succeed};
-use dap_messages::message::{EditorBody, EditorOutcome, EditorStop};
+use dap_messages::message::{EditorBody, EditorOutcome, EditorStop, Numbering};
+use dap_messages::numbering::FROM_1;
 use dap_program::bounds::{is_bounded, opens};
 use dap_program::change::change_surely;
 use dap_program::end::exit_code;
@@ -192,7 +193,7 @@ impl Session {
         ensures { RepliesAs (commanding command.now) self.old result self.new }
     {
         match command {
-            DapCommand::Initialize => self.initialize(alloc, NO_EVENTS),
+            DapCommand::Initialize => self.initialize(alloc, NO_EVENTS, FROM_1),
             DapCommand::Attach => self.refuse_with(
                 alloc,
                 "attach is not supported: launch a program",
@@ -211,14 +212,18 @@ impl Session {
         ensures { RepliesAs (editing command.now) self.old result self.new }
     {
         match command {
-            EditorCommand::Initialize(supported) => self.initialize(alloc, *supported),
+            EditorCommand::Initialize {
+                supported,
+                numbering,
+            } => self.initialize(alloc, *supported, *numbering),
             EditorCommand::Terminate => Ok(self.terminate()),
             EditorCommand::SetExceptionBreakpoints(filters) => Ok(self.set_filters(*filters)),
             EditorCommand::ExceptionInfo => self.explain(alloc),
             EditorCommand::Evaluate {
                 expression,
                 context,
-            } => self.evaluate(alloc, expression.as_str(), *context),
+                format,
+            } => self.evaluate(alloc, expression.as_str(), *context, *format),
             EditorCommand::LoadedSources => self.list_sources(alloc),
             _ => self.edit_points(alloc, command),
         }
@@ -245,15 +250,20 @@ impl Session {
         }
     }
 
-    fn initialize(&mut self, alloc: Global, supported: SupportedEvents) -> Result<Reply, AllocError>
-        ensures { RepliesAs (initializing supported) self.old result self.new }
+    fn initialize(
+        &mut self,
+        alloc: Global,
+        supported: SupportedEvents,
+        numbering: Numbering,
+    ) -> Result<Reply, AllocError>
+        ensures { RepliesAs (initializing supported numbering) self.old result self.new }
     {
         if self.settings.is_initialized {
             return self.refuse_with(alloc, "initialized already");
         }
         self.settings.is_initialized = true;
         self.settings.supported = supported;
-        Ok(succeed(EditorBody::Capabilities, FollowUp::Nothing))
+        Ok(succeed(EditorBody::Capabilities(numbering), FollowUp::Nothing))
     }
 
     fn set_filters(&mut self, filters: ExceptionFilters) -> Reply

@@ -5,7 +5,7 @@ use Rattle.dap_editor.proofs.arguments.lines_of.Given as goal
 
 abbrev pub invariant-loop-breakpoint : goal.invariant-loop-breakpoint
 invariant-loop-breakpoint l = record {
-  so_far : then_all l.lines (all_in line_of (drop l.breakpoint-index l.breakpoints))
-      ≡ all_in line_of l.breakpoints;
+  so_far : then_all l.lines (all_in (line_of l.numbering) (drop l.breakpoint-index l.breakpoints))
+      ≡ all_in (line_of l.numbering) l.breakpoints;
   count : length l.lines ≡ l.breakpoint-index;
 }

@@ -1,19 +1,19 @@
-use Rattle.std.proofs.Common.{◌∙◌, ◌+◌, drop, sym, ap, List, ℕ}
-use Rattle.std.specs.Prelude.{option_map}
-use Rattle.std.proofs.lemmas.Option.{slice_get-map}
+use Rattle.std.proofs.Common.{◌∷◌, [], List, ℕ, take}
+use Rattle.std.proofs.lemmas.List.{map-append}
 use Rattle.asm_build.specs.declared.symbols.Symbol.{Symbol}
-use Rattle.dap_show.specs.Completions.{symbol_completions, symbol_named, with_completion, with_completions}
-use Rattle.dap_show.proofs.ListLemmas.{fold_more}
+use Rattle.dap_messages.specs.declared.message.CompletionKind.TheVariants as kind
+use Rattle.dap_show.specs.Completions.{completion_named, symbol_completions}
+use Rattle.dap_show.proofs.CompletionLemmas.{completes_both}
+use Rattle.dap_show.proofs.ListLemmas.{one_taken}
 use Rattle.dap_show.proofs.completion.push_symbols.Goals as goal
 
 pub loop-index-preserved : goal.loop-index-preserved
 loop-index-preserved c =
-    let word = c.args.word.now in
-    let all = symbol_completions c.args.symbols.now in
-    let name = c.symbol_at.result.0.now in
-    let item = slice_get-map (λ (e : List ℕ × Symbol). symbol_named e.0) c.args.symbols.now c.loop-index.index
-    ∙ ap (option_map (λ (e : List ℕ × Symbol). symbol_named e.0)) c.symbol_at.ensures in
-    ap (λ cs. with_completions word cs (drop (c.loop-index.index + 1) all)) c.in_ok-push_symbol.ensures
-    ∙ sym (fold_more (with_completion word) c.loop-index.items all c.loop-index.index
-    (symbol_named name) item)
-    ∙ c.loop-index.invariant
+    let before = take c.loop-index.index c.args.symbols.now in
+    let e : List ℕ × Symbol = (c.symbol_at.result.0.now, c.symbol_at.result.1) in
+    rw (
+      one_taken c.args.symbols.now c.loop-index.index e c.symbol_at.ensures,
+      map-append (λ (e : List ℕ × Symbol). completion_named [] kind.Symbol e.0) before (e ∷ []),
+    )
+    (completes_both c.args.word.now (symbol_completions before) _ _ _ _ c.loop-index.invariant
+    c.in_ok-push_name.ensures)

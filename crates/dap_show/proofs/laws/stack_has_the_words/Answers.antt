@@ -1,4 +1,4 @@
-use Rattle.dap_show.proofs.RowLemmas.{stack_count, stack_at, word_inside}
+use Rattle.dap_show.proofs.RowLemmas.{stack_count, stack_at}
 use Rattle.dap_show.proofs.laws.stack_has_the_words.Goals as goal
 
 pub returns-clause-count : goal.returns-clause-count
@@ -6,6 +6,3 @@ returns-clause-count c = stack_count
 
 pub returns-clause-words : goal.returns-clause-words
 returns-clause-words c = stack_at
-
-pub returns-clause-inside : goal.returns-clause-inside
-returns-clause-inside c = word_inside

@@ -6,6 +6,7 @@ use Rattle.dap_show.proofs.rows.memory.Goals as goal
 pub loop-offset-preserved : goal.loop-offset-preserved
 loop-offset-preserved c = λ b s.
     let address = c.args.start + c.loop-offset.offset in
-    c.in_ok-push_memory.ensures b s
-    ∙ ap (λ made. made ++ memory_row b.machine address ∷ []) (c.loop-offset.invariant b s)
-    ∙ sym (map-range_with_len_more (memory_row b.machine) c.args.start c.loop-offset.offset address refl)
+    let row = memory_row c.args.format b.machine in
+    c.in_ok-push_byte.ensures b s
+    ∙ ap (λ made. made ++ row address ∷ []) (c.loop-offset.invariant b s)
+    ∙ sym (map-range_with_len_more row c.args.start c.loop-offset.offset address refl)

@@ -8,4 +8,4 @@ use Rattle.dap_show.proofs.rows.memory.Given as goal
 abbrev pub invariant-loop-offset : goal.invariant-loop-offset
 invariant-loop-offset l =
     (b : Board) → RepresentsBoard l.fn.lab b
-    → l.rows ≡ map (memory_row b.machine) (range_with_len l.start l.offset)
+    → l.rows ≡ map (memory_row l.format b.machine) (range_with_len l.start l.offset)

@@ -9,4 +9,5 @@ abbrev pub invariant-loop-offset : goal.invariant-loop-offset
 invariant-loop-offset l =
     (b : Board) → RepresentsBoard l.fn.lab b
     → l.rows
-    ≡ map (λ index. word_row b (stack_address b.machine.regs.sp index)) (range_with_len l.start l.offset)
+    ≡ map (λ index. word_row l.format b (stack_address b.machine.regs.sp index)) (range_with_len l.start
+    l.offset)

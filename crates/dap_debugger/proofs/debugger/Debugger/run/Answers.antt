@@ -15,7 +15,7 @@ returns-clause-ok c inputs bytes past =
       told.0,
       past_more c.args.self.now _ inputs bytes (slice told.0) c.in_ok-messages.messages
           c.self.inside.told.items c.push_reserved.new.self.items past told.1
-          (ap (λ (d : DebuggerState). d.sent) c.self.view_is)
+          (ap (λ (d : DebuggerState). d.progress) c.self.view_is)
           (ap (λ (d : DebuggerState). d.told) (sym c.self.view_is))
           (c.push_reserved.ensures.items
           ∙ ap (λ l. l ++ c.in_ok-messages.messages ∷ []) c.in_ok-reserve.ensures.items) refl,

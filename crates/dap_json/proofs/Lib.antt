@@ -1,0 +1,4 @@
+pub mod FloatLemmas
+pub mod DepthLemmas
+pub mod PathLemmas
+pub mod Base64Lemmas
