@@ -6,7 +6,7 @@ use base_text::sequence::Bytes;
 use dap_debugger::incoming::{BodySource, Incoming, StreamEnd};
 use std::alloc::{AllocError, Global};
 use std::collections::VecDeque;
-use std::sync::{Condvar, Mutex, Wait};
+use std::sync::{Condvar, Mutex, MutexGuard, Wait};
 
 // The most bodies that wait.
 const ROOM: usize = 64;
@@ -19,14 +19,6 @@ struct Waiting {
     end: Option<StreamEnd>,
     // Nobody takes bodies any more.
     is_closed: bool,
-}
-
-/// Why a body wasn't put into an inbox.
-#[derive(Clone, Copy, PartialEq, Eq)]
-pub enum PutFault {
-    /// Nobody takes bodies any more.
-    Closed,
-    OutOfMemory,
 }
 
 /// A queue of bodies, in the order in which they came: one thread puts them, another takes them.
@@ -59,65 +51,65 @@ impl Inbox {
         })
     }
 
-    /// Puts a body into the inbox. Waits until there is room.
-    pub fn put<R: Wait>(&self, rt: &R, body: Bytes) -> Result<(), PutFault> {
+    /// Puts a body into the inbox. Waits until there is room. An error says why no more come.
+    pub fn put<R: Wait>(&self, rt: &R, body: Bytes) -> Result<(), StreamEnd> {
         let mut waiting = self
             .emptied
             .wait_while(rt, self.waiting.lock(rt), |waiting| {
                 waiting.bodies.len() >= ROOM && !waiting.is_closed
             });
-        if waiting.is_closed {
-            drop(waiting);
-            drop(body);
-            return Err(PutFault::Closed);
-        }
-        let put = waiting.bodies.push_back(body);
+        let added = add(&mut waiting, body);
         drop(waiting);
         self.filled.notify_one();
-        match put {
-            Ok(()) => Ok(()),
-            Err(_) => Err(PutFault::OutOfMemory),
-        }
+        added
     }
 
     /// Says why no more bodies come.
     pub fn finish<R: Wait>(&self, rt: &R, end: StreamEnd) {
-        let mut waiting = self.waiting.lock(rt);
-        waiting.end = Some(end);
-        drop(waiting);
+        self.waiting.lock(rt).end = Some(end);
         self.filled.notify_one();
     }
 
     /// Says that nobody takes bodies any more.
     pub fn close<R: Wait>(&self, rt: &R) {
-        let mut waiting = self.waiting.lock(rt);
-        waiting.is_closed = true;
+        self.waiting.lock(rt).is_closed = true;
+        self.emptied.notify_one();
+    }
+
+    // Takes the body that came first, or says why no more come, if that is known.
+    fn take(&self, mut waiting: MutexGuard<'_, Waiting>) -> Incoming {
+        let end = waiting.end;
+        let incoming = take_first(&mut waiting.bodies, end);
         drop(waiting);
         self.emptied.notify_one();
+        incoming
     }
 
     // Takes the body that came first, or says why no more come. Waits for either.
     fn next<R: Wait>(&self, rt: &R) -> Incoming {
-        let mut waiting = self
-            .filled
-            .wait_while(rt, self.waiting.lock(rt), |waiting| {
-                waiting.bodies.is_empty() && waiting.end.is_none()
-            });
-        let end = waiting.end;
-        let incoming = take_first(&mut waiting.bodies, end);
-        drop(waiting);
-        self.emptied.notify_one();
-        incoming
+        self.take(
+            self.filled
+                .wait_while(rt, self.waiting.lock(rt), |waiting| {
+                    waiting.bodies.is_empty() && waiting.end.is_none()
+                }),
+        )
     }
 
     // The same, without waiting.
     fn next_if_there<R: Wait>(&self, rt: &R) -> Incoming {
-        let mut waiting = self.waiting.lock(rt);
-        let end = waiting.end;
-        let incoming = take_first(&mut waiting.bodies, end);
-        drop(waiting);
-        self.emptied.notify_one();
-        incoming
+        self.take(self.waiting.lock(rt))
+    }
+}
+
+// Adds a body, unless nobody takes it any more.
+fn add(waiting: &mut Waiting, body: Bytes) -> Result<(), StreamEnd> {
+    if waiting.is_closed {
+        drop(body);
+        return Err(StreamEnd::Ended);
+    }
+    match waiting.bodies.push_back(body) {
+        Ok(()) => Ok(()),
+        Err(_) => Err(StreamEnd::OutOfMemory),
     }
 }
 

@@ -1,7 +1,7 @@
 //! The thread that reads.
 ghost use Rattle.std.specs.Prelude.{◌<◌, length, vec_len, IfOk};
 
-use crate::inbox::{Inbox, PutFault};
+use crate::inbox::Inbox;
 use base_streams::ports::Inlet;
 use dap_debugger::incoming::StreamEnd;
 use dap_stream::bodies::Bodies;
@@ -22,11 +22,7 @@ fn new_buffer(alloc: Global) -> Result<Vec<u8>, AllocError>
 // Puts bodies into the inbox. An error says why no more come.
 fn put_all<R: Wait>(rt: &R, inbox: &Inbox, bodies: Bodies) -> Result<(), StreamEnd> {
     for body in bodies.into_vec() {
-        match inbox.put(rt, body) {
-            Ok(()) => {}
-            Err(PutFault::Closed) => return Err(StreamEnd::Ended),
-            Err(PutFault::OutOfMemory) => return Err(StreamEnd::OutOfMemory),
-        }
+        inbox.put(rt, body)?;
     }
     Ok(())
 }
