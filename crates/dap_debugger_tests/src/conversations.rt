@@ -25,8 +25,8 @@ const LETTER: &str = r#"
     "supportsReadMemoryRequest":true,"supportsRestartRequest":true,"supportsSetExpression":true,
     "supportsSetVariable":true,
     "supportsStepBack":true,"supportsSteppingGranularity":true,"supportsTerminateRequest":true,
-    "supportsValueFormattingOptions":true,"supportsWriteMemoryRequest":true},"command":"initialize","request_seq":1,"seq":1,"success":true,
-    "type":"response"}
+    "supportsValueFormattingOptions":true,"supportsWriteMemoryRequest":true},"command":"initialize",
+    "request_seq":1,"seq":1,"success":true,"type":"response"}
 > {"seq":2,"type":"request","command":"launch","arguments":{"program":"letter.asm"}}
 < {"body":{},"command":"launch","request_seq":2,"seq":2,"success":true,"type":"response"}
 < {"event":"initialized","seq":3,"type":"event"}
@@ -60,8 +60,8 @@ const LOOP: &str = r#"
     "supportsReadMemoryRequest":true,"supportsRestartRequest":true,"supportsSetExpression":true,
     "supportsSetVariable":true,
     "supportsStepBack":true,"supportsSteppingGranularity":true,"supportsTerminateRequest":true,
-    "supportsValueFormattingOptions":true,"supportsWriteMemoryRequest":true},"command":"initialize","request_seq":2,"seq":2,"success":true,
-    "type":"response"}
+    "supportsValueFormattingOptions":true,"supportsWriteMemoryRequest":true},"command":"initialize",
+    "request_seq":2,"seq":2,"success":true,"type":"response"}
 > {"seq":3,"type":"request","command":"launch","arguments":{"program":"other.asm"}}
 < {"command":"launch","message":"no file","request_seq":3,"seq":3,"success":false,"type":"response"}
 > {"seq":4,"type":"request","command":"launch","arguments":{"program":"loop.asm"}}
@@ -94,8 +94,8 @@ const BACK: &str = r#"
     "supportsReadMemoryRequest":true,"supportsRestartRequest":true,"supportsSetExpression":true,
     "supportsSetVariable":true,
     "supportsStepBack":true,"supportsSteppingGranularity":true,"supportsTerminateRequest":true,
-    "supportsValueFormattingOptions":true,"supportsWriteMemoryRequest":true},"command":"initialize","request_seq":1,"seq":1,"success":true,
-    "type":"response"}
+    "supportsValueFormattingOptions":true,"supportsWriteMemoryRequest":true},"command":"initialize",
+    "request_seq":1,"seq":1,"success":true,"type":"response"}
 > {"seq":2,"type":"request","command":"launch","arguments":{"program":"letters.asm","stopOnEntry":true}}
 < {"body":{},"command":"launch","request_seq":2,"seq":2,"success":true,"type":"response"}
 < {"event":"initialized","seq":3,"type":"event"}
@@ -165,8 +165,8 @@ const SEARCH: &str = r#"
     "supportsReadMemoryRequest":true,"supportsRestartRequest":true,"supportsSetExpression":true,
     "supportsSetVariable":true,
     "supportsStepBack":true,"supportsSteppingGranularity":true,"supportsTerminateRequest":true,
-    "supportsValueFormattingOptions":true,"supportsWriteMemoryRequest":true},"command":"initialize","request_seq":2,"seq":2,"success":true,
-    "type":"response"}
+    "supportsValueFormattingOptions":true,"supportsWriteMemoryRequest":true},"command":"initialize",
+    "request_seq":2,"seq":2,"success":true,"type":"response"}
 > {"seq":3,"type":"request","command":"launch","arguments":{"program":"other.asm"}}
 < {"command":"launch","message":"no file","request_seq":3,"seq":3,"success":false,"type":"response"}
 > {"seq":4,"type":"request","command":"launch","arguments":{"program":"loop.asm"}}
@@ -221,8 +221,8 @@ const PATHS: &str = r#"
     "supportsReadMemoryRequest":true,"supportsRestartRequest":true,"supportsSetExpression":true,
     "supportsSetVariable":true,
     "supportsStepBack":true,"supportsSteppingGranularity":true,"supportsTerminateRequest":true,
-    "supportsValueFormattingOptions":true,"supportsWriteMemoryRequest":true},"command":"initialize","request_seq":1,"seq":1,"success":true,
-    "type":"response"}
+    "supportsValueFormattingOptions":true,"supportsWriteMemoryRequest":true},"command":"initialize",
+    "request_seq":1,"seq":1,"success":true,"type":"response"}
 > {"seq":2,"type":"request","command":"launch","arguments":{"program":"./letters.asm"}}
 < {"body":{},"command":"launch","request_seq":2,"seq":2,"success":true,"type":"response"}
 < {"event":"initialized","seq":3,"type":"event"}
