@@ -100,18 +100,19 @@ pub fn prompt_evaluation(
 
 // ---- changes
 
+// The value that is set, or the message that says why it can't be.
 fn or_message(
     alloc: Global,
     set: Result<SetValue, LookFault>,
-) -> Result<Option<Result<SetValue, Text>>, AllocError>
-    ensures set { IfOk result (λ found. found ≡ Some (answers.or_message set)) }
+) -> Result<Result<SetValue, Text>, AllocError>
+    ensures set { IfOk result (λ found. found ≡ answers.or_message set) }
     ensures other { IfOk result (λ _. set ≢ Err LookFault.OutOfMemory) }
 {
     match set {
-        Ok(set) => Ok(Some(Ok(set))),
+        Ok(set) => Ok(Ok(set)),
         Err(fault) => {
             let message = fault.message(alloc)?;
-            Ok(Some(Err(message)))
+            Ok(Err(message))
         }
     }
 }
@@ -134,7 +135,8 @@ pub fn value_set(
         } => {
             let name = name.as_str();
             let set = set_variable(alloc, lab, *reference, name, value.as_str(), *format);
-            or_message(alloc, set)
+            let set = or_message(alloc, set)?;
+            Ok(Some(set))
         }
         VariablesCommand::SetExpression {
             expression,
@@ -142,7 +144,8 @@ pub fn value_set(
             format,
         } => {
             let set = set_expression(alloc, lab, expression.as_str(), value.as_str(), *format);
-            or_message(alloc, set)
+            let set = or_message(alloc, set)?;
+            Ok(Some(set))
         }
         _ => Ok(None),
     }
@@ -229,19 +232,6 @@ fn completions(
     })))
 }
 
-fn change(alloc: Global, set: Result<SetValue, LookFault>) -> Result<VariablesAnswer, AllocError>
-    ensures change { IfOk result (λ answer. answer ≡ VariablesAnswer.Change (answers.or_message set)) }
-    ensures other { IfOk result (λ _. set ≢ Err LookFault.OutOfMemory) }
-{
-    match set {
-        Ok(set) => Ok(VariablesAnswer::Change(Ok(set))),
-        Err(fault) => {
-            let message = fault.message(alloc)?;
-            Ok(VariablesAnswer::Change(Err(message)))
-        }
-    }
-}
-
 /// What a command shows of a board, or the value that it sets.
 pub fn variables_answer(
     alloc: Global,
@@ -273,7 +263,8 @@ pub fn variables_answer(
         } => {
             let name = name.as_str();
             let found = set_variable(alloc, lab, *reference, name, value.as_str(), *format);
-            change(alloc, found)
+            let set = or_message(alloc, found)?;
+            Ok(VariablesAnswer::Change(set))
         }
         VariablesCommand::SetExpression {
             expression,
@@ -281,7 +272,8 @@ pub fn variables_answer(
             format,
         } => {
             let found = set_expression(alloc, lab, expression.as_str(), value.as_str(), *format);
-            change(alloc, found)
+            let set = or_message(alloc, found)?;
+            Ok(VariablesAnswer::Change(set))
         }
     }
 }
