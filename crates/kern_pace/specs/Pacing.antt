@@ -3,10 +3,10 @@ use Rattle.std.specs.Prelude.{ℕ, ◌*◌, ◌/◌, ◌-◌, min, max}
 use Rattle.kern_pace.specs.declared.pace.Look.{Look}
 use Rattle.kern_pace.specs.declared.pace.Look.TheVariants.{Posts, Nothing}
 
--- The time for `spent` entries at the rate that makes the `rest` of the journal last three hours (10,800
+-- The time for `spent` entries at the rate that makes the `rest` of the journal last six hours (21,600
 -- seconds), in microseconds, but never more than `most`.
 unfoldable pub pause : ℕ → ℕ → ℕ → ℕ
-pause most spent rest = min (spent * 10800000000 / rest) most
+pause most spent rest = min (spent * 21600000000 / rest) most
 
 -- the pause of a running cell after this many slices of its own: 50 milliseconds at most, whatever entries
 -- others make

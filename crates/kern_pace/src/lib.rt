@@ -1,11 +1,12 @@
-// How a server paces its work, as values with no threads and no clocks. `slice_pause` slows a long run down
-// so that the journal lasts: it pauses by its own slices, at most 50 milliseconds at a time. `Throttle`
-// delays connections while many unauthenticated peers come: one joins every 50 milliseconds, and none waits
-// for more than 800. `Budget` delays unsigned bytes: 256,000 are read at once, then 4,000 a second.
-// `next_gap` says how often a running cell's posts are looked for, `is_nearly_full` and `is_full` how full a
-// journal is.
+// How a server paces its work, as values with no threads and no clocks. `Bucket` holds the slices that run at
+// full speed: 524,288 at first, and some 130 more for each second that the worker waits. `slice_pause` slows
+// down those beyond it so that the journal lasts. `Throttle` delays connections while many unauthenticated
+// peers come, `Budget` unsigned bytes; `can_leave` says which connections lose their slots to others.
+// `next_gap` says how often a running cell's posts are looked for, `is_full` how full a journal is.
 #![tactic(auto)]
 
+pub mod bucket;
 pub mod budget;
+pub mod eviction;
 pub mod pace;
 pub mod throttle;

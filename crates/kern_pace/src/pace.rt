@@ -9,9 +9,6 @@ pub const JOURNAL_LIMIT: u32 = 4_194_304;
 // How many of them are reserved for the writers, which fetch what was posted, once no more slices are made.
 const RESERVE: u64 = 32_768;
 
-// About a thousand million instructions, at 4,096 a slice.
-const SLICES_AT_FULL_SPEED: u64 = 262_144;
-
 // Subscriptions aren't signed, and each is an entry of the journal.
 const SUBSCRIPTIONS_AT_FULL_SPEED: u64 = 65_536;
 
@@ -20,7 +17,7 @@ pub const SHORTEST_GAP: u64 = 5_000;
 
 const LONGEST_GAP: u64 = 100_000;
 
-const THREE_HOURS: u64 = 10_800_000_000;
+const SIX_HOURS: u64 = 21_600_000_000;
 
 const LONGEST_PAUSE_OF_A_RUN: u64 = 50_000;
 
@@ -44,7 +41,7 @@ fn pause(spent: u64, entries: u64, most: u64) -> u64
 {
     let limit = u64::from(JOURNAL_LIMIT);
     let rest = limit.saturating_sub(entries).max(1);
-    (spent.min(limit) * THREE_HOURS / rest).min(most)
+    (spent.min(limit) * SIX_HOURS / rest).min(most)
 }
 
 /// The worker's pause after this many slices of a run, in microseconds, where the journal has this many
@@ -76,13 +73,6 @@ pub fn subscription_pause(entries: u64, before: u64) -> u64
     )
 }
 
-/// How many slices the worker makes at full speed after each wait for something to do.
-pub fn free_slices() -> u64
-    ensures { result ≡ 262144 }
-{
-    SLICES_AT_FULL_SPEED
-}
-
 /// Whether a subscription is taken without a pause, after this many others on all connections.
 pub fn is_free_subscription(others: u64) -> bool
     ensures { IsTrue result ↔ (others < 65536) }
@@ -109,6 +99,13 @@ pub fn is_full(entries: u64) -> bool
     ensures { IsTrue result ↔ (4194304 ≤ entries + 32768) }
 {
     entries >= u64::from(JOURNAL_LIMIT) - RESERVE
+}
+
+// How many entries are left before the reserve.
+pub(crate) fn entries_left(entries: u64) -> u64
+    ensures { result ≡ 4161536 - entries }
+{
+    (u64::from(JOURNAL_LIMIT) - RESERVE).saturating_sub(entries)
 }
 
 /// Whether a journal of this many entries is at least 90 percent full.

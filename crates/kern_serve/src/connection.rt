@@ -7,8 +7,6 @@ ghost use Rattle.kern_serve.specs.Houses.{house_of};
 use crate::gates::{InGate, OutGate};
 use crate::host::Host;
 use crate::listeners::Listeners;
-use crate::slots::Slots;
-use crate::socket::{PeerStream, lift_timeout, prepare};
 use base_streams::std_io::{StdInlet, StdOutlet};
 use base_text::text::Text;
 use kern_core::fault::KernelFault;
@@ -19,7 +17,11 @@ use kern_host::hooks::Hooks;
 use kern_host::server::{Seal, Server};
 use kern_host::visiting::visit;
 use kern_net::end::PumpEnd;
+use kern_pace::eviction::Stage;
 use kern_waits::event_count::EventCount;
+use kern_waits::peer_stream::{PeerStream, Watch, lift_timeout};
+use kern_waits::port::Port;
+use kern_waits::slots::{PortSlot, Slots};
 use kern_waits::sockets::close;
 use kern_waits::throttles::Throttles;
 use kern_waits::wakeups::{Slot, Wakeups};
@@ -45,8 +47,9 @@ pub struct Shared {
     pub listeners: Listeners,
 }
 
-// How often the writer checks whether the reader has begun, and how long it waits each time.
-const CHECKS: u32 = 100;
+// How often the writer checks whether the reader has begun, and how long it waits each time: three seconds in
+// all, for a machine that is short of processors.
+const CHECKS: u32 = 300;
 
 const CHECK_MILLIS: u64 = 10;
 
@@ -59,12 +62,22 @@ struct Connection<'a, R> {
     stream: Arc<TcpStream>,
     // Whether the handshake is made.
     has_met: AtomicBool,
+    // Whether a signed message has opened.
+    is_heard: AtomicBool,
     // The writer's event count before the connection joined.
     seen: AtomicU64,
     // Where its writer waits for its reader to begin.
     begun: EventCount,
     // Whether its reader has closed it.
     is_closed: AtomicBool,
+}
+
+/// A channel's slot among those of all ports.
+pub fn port_slot(slot: Slot) -> PortSlot {
+    PortSlot {
+        port: Port::Channel(slot.channel),
+        number: slot.number,
+    }
 }
 
 // A connection as it is served.
@@ -86,6 +99,7 @@ impl<'a, R: Host> Connection<'a, R> {
             slot,
             stream,
             has_met: AtomicBool::new(false),
+            is_heard: AtomicBool::new(false),
             seen: AtomicU64::new(0),
             begun: EventCount::new(),
             is_closed: AtomicBool::new(false),
@@ -98,13 +112,25 @@ impl<'a, R: Host> Connection<'a, R> {
     {
         let (shared, slot) = (self.shared, self.slot);
         let stream: &TcpStream = &self.stream;
-        let throttles = &shared.throttles;
-        let inlet = PeerStream::new(self.rt, throttles, slot.channel, stream, &self.has_met);
+        let watch = Watch {
+            rt: self.rt,
+            throttles: &shared.throttles,
+            has_met: &self.has_met,
+            is_heard: &self.is_heard,
+        };
+        let inlet = PeerStream::new(watch, Port::Channel(slot.channel), stream);
+        let gate = InGate::new(
+            &shared.wakeups,
+            &shared.slots,
+            self.rt,
+            slot,
+            &self.is_heard,
+        );
         Guest::new(
             slot.channel,
             StdInlet::new(inlet),
             StdOutlet::new(stream),
-            InGate::new(&shared.wakeups, &shared.slots, self.rt, slot),
+            gate,
             OutGate::new(&shared.wakeups, slot, &self.is_closed),
         )
     }
@@ -140,6 +166,9 @@ impl<'a, 'c, R: Host> Hooks<InGate<'c, R>, OutGate<'c>> for Connection<'a, R> {
     fn before_join<Q: Wait>(&self, _rt: &Q) {
         self.has_met.store(true, Ordering::SeqCst);
         lift_timeout(&self.stream);
+        self.shared
+            .slots
+            .reach(self.rt, port_slot(self.slot), Stage::Silent);
         self.shared.throttles.admit(self.rt, self.slot.channel);
         let seen = self.shared.wakeups.event_count(self.slot).count();
         self.seen.store(seen, Ordering::SeqCst);
@@ -147,9 +176,6 @@ impl<'a, 'c, R: Host> Hooks<InGate<'c, R>, OutGate<'c>> for Connection<'a, R> {
     }
 
     fn before_reading<Q: Wait>(&self, _rt: &Q, gate: &mut InGate<'c, R>) {
-        if let Ok(shown) = Arc::try_clone(&self.stream) {
-            self.shared.slots.enter(self.rt, self.slot, shown);
-        }
         gate.begin();
         self.begun.notify();
     }
@@ -188,7 +214,6 @@ impl<'a, 'c, R: Host> Hooks<InGate<'c, R>, OutGate<'c>> for Connection<'a, R> {
     }
 
     fn before_leave<Q: Wait>(&self, _rt: &Q) {
-        self.shared.slots.leave(self.rt, self.slot);
         self.shared.wakeups.count_entries(1);
     }
 }
@@ -223,19 +248,12 @@ pub fn serve_connection<R: Host>(
     alloc: Global,
     shared: &Shared,
     slot: Slot,
-    stream: TcpStream,
+    stream: Arc<TcpStream>,
     passes: Passes,
 ) -> Passes
     requires { AreOf shared.now.desk (Some passes) }
     ensures { VisitsEach (house_of shared.now) slot.channel passes result }
 {
-    if prepare(&stream).is_err() {
-        drop(stream);
-        return passes;
-    }
-    let Ok(stream) = Arc::new(alloc, stream) else {
-        return passes;
-    };
     let connection = Connection::new(rt, shared, slot, stream);
     visit_socket(alloc, &connection, passes)
 }

@@ -4,10 +4,18 @@ use thiserror::Error;
 /// Why a server can't start or go on.
 #[derive(Clone, Copy, PartialEq, Eq, Debug, Error)]
 pub enum ServerFault {
-    /// Out of memory, or a thread couldn't be started, for which the library gives no reason.
-    #[error("out of memory")]
+    #[error("no memory")]
     OutOfMemory,
-    /// The system has no random bytes for the session's identifier, or a write to standard output failed.
-    #[error("the system refused random bytes")]
-    System,
+    /// A thread couldn't be started, for which the library gives no reason.
+    #[error("no threads")]
+    NoThreads,
+    /// The system has no random bytes for the session's identifier.
+    #[error("no random bytes")]
+    NoRandom,
+    /// A write to standard output failed.
+    #[error("write failed")]
+    WriteFailed,
+    /// The kernel refused a call of the worker, which it never does.
+    #[error("the kernel refused a call")]
+    Refused,
 }

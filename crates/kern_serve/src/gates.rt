@@ -2,19 +2,22 @@
 ghost use Rattle.std.specs.Prelude.{◌≡◌, ◌≤◌, ◌+◌, ◌<◌, ◌↔◌, IsTrue, false, None};
 ghost use Rattle.kern_net.specs.Gates.{with_answer};
 
-use crate::slots::Slots;
+use crate::connection::port_slot;
 use base_streams::ports::Outlet;
 use jup_wire::channel::Channel;
 use kern_desk::seated::Pass;
 use kern_net::gate::{ReaderGate, WorkerGate, WriterGate};
 use kern_net::pump_out::NUMBERS_OF_A_FETCH;
 use kern_net::tally::{Tally, WorkerTally, one_more};
+use kern_pace::bucket::Bucket;
+use kern_pace::eviction::Stage;
 use kern_pace::pace::{
-    Look, SHORTEST_GAP, free_slices, is_free_subscription, is_full, is_nearly_full, lag_pause,
-    next_gap, slice_pause, subscription_pause,
+    Look, SHORTEST_GAP, is_free_subscription, is_full, is_nearly_full, lag_pause, next_gap,
+    slice_pause, subscription_pause,
 };
 use kern_waits::clock::unix_seconds;
 use kern_waits::event_count::EventCount;
+use kern_waits::slots::Slots;
 use kern_waits::wakeups::{Readers, Slot, Wakeups};
 use std::rt::Clock;
 use std::sync::Wait;
@@ -24,13 +27,15 @@ use std::time::Duration;
 
 /// A reader's gate. After many subscriptions, further ones wait so that the journal lasts.
 #[derive(Drop)]
-pub struct InGate<'a, C: Clock> {
+pub struct InGate<'a, C: Wait + Clock> {
     wakeups: &'a Wakeups,
     slots: &'a Slots,
     // Where the writer of its connection waits.
     own: &'a EventCount,
     clock: &'a C,
     slot: Slot,
+    // Set once a signed message has opened.
+    is_heard: &'a AtomicBool,
     // How many entries the journal had at its last subscription, or when its reader began.
     entries: u64,
     wakes: u64,
@@ -39,9 +44,15 @@ pub struct InGate<'a, C: Clock> {
     due: Option<u64>,
 }
 
-impl<'a, C: Clock> InGate<'a, C> {
+impl<'a, C: Wait + Clock> InGate<'a, C> {
     /// The gate of the connection in a slot, before its first call.
-    pub fn new(wakeups: &'a Wakeups, slots: &'a Slots, clock: &'a C, slot: Slot) -> InGate<'a, C>
+    pub fn new(
+        wakeups: &'a Wakeups,
+        slots: &'a Slots,
+        clock: &'a C,
+        slot: Slot,
+        is_heard: &'a AtomicBool,
+    ) -> InGate<'a, C>
         ensures { result.due ≡ None }
     {
         InGate {
@@ -50,6 +61,7 @@ impl<'a, C: Clock> InGate<'a, C> {
             own: wakeups.event_count(slot),
             clock,
             slot,
+            is_heard,
             entries: wakeups.entries(),
             wakes: 0,
             own_wakes: 0,
@@ -85,16 +97,18 @@ impl<'a, C: Clock> InGate<'a, C> {
         }
     }
 
-    // Counts a call. The first one shows that the peer has the key.
-    fn count<R: Wait>(&self, rt: &R) {
+    // Counts a call. The first one shows that the peer has the key, except on iopub, where nothing is signed.
+    fn count(&self) {
         self.wakeups.count_entries(1);
-        if !self.was_used() {
-            self.slots.hear(rt, self.slot);
+        if !self.was_used() && self.slot.channel != Channel::Iopub {
+            self.slots
+                .reach(self.clock, port_slot(self.slot), Stage::Heard);
+            self.is_heard.store(true, Ordering::SeqCst);
         }
     }
 }
 
-impl<'a, C: Clock> ReaderGate for InGate<'a, C> {
+impl<'a, C: Wait + Clock> ReaderGate for InGate<'a, C> {
     ghost polls = { λ g. record {
       wakes = g.wakes;
       own_wakes = g.own_wakes;
@@ -102,14 +116,14 @@ impl<'a, C: Clock> ReaderGate for InGate<'a, C> {
     } };
 
     fn wake<R: Wait>(&mut self, rt: &R, _pass: &Pass) {
-        self.count(rt);
+        self.count();
         self.wakeups.wake_all();
         self.wakes = one_more(rt, self.wakes);
         self.due = None;
     }
 
     fn wake_own_writers<R: Wait>(&mut self, rt: &R, _pass: &Pass) {
-        self.count(rt);
+        self.count();
         match self.slot.channel {
             Channel::Iopub => {
                 self.wakeups.after_subscription();
@@ -123,7 +137,13 @@ impl<'a, C: Clock> ReaderGate for InGate<'a, C> {
         self.due = None;
     }
 
-    fn unix_seconds<R: Wait>(&mut self, _rt: &R) -> u64 {
+    // A peer that has heard of a cell may ask for its end, so the next call waits until the cell's run has
+    // started.
+    fn unix_seconds<R: Wait>(&mut self, rt: &R) -> u64 {
+        match self.slot.channel {
+            Channel::Shell | Channel::Control => self.wakeups.await_slice(rt),
+            Channel::Iopub | Channel::Stdin => {}
+        }
         let told = unix_seconds(self.clock);
         self.due = Some(told);
         told
@@ -242,8 +262,8 @@ pub struct WorkGate<'a, C: Wait + Clock + Print> {
     wakeups: &'a Wakeups,
     clock: &'a C,
     seen: u64,
-    // How many more slices may be made at full speed.
-    free: u64,
+    // The slices that may be made at full speed.
+    bucket: Bucket,
     // How many slices there had been at the last pause, and how many there are now.
     paused: u64,
     slices: u64,
@@ -274,7 +294,7 @@ impl<'a, C: Wait + Clock + Print> WorkGate<'a, C> {
             wakeups,
             clock,
             seen: 0,
-            free: free_slices(),
+            bucket: Bucket::full(),
             paused: 0,
             slices: 0,
             looked: 0,
@@ -323,6 +343,18 @@ impl<'a, C: Wait + Clock + Print> WorkGate<'a, C> {
             .wait_for_work_timeout(self.clock, self.seen, most);
     }
 
+    // Waits until there may be something to do. The time that passes meanwhile refills the bucket.
+    fn wait_for_work(&mut self)
+        ensures { self.new.polls ≡ self.old.polls }
+    {
+        let before = self.wakeups.micros(self.clock);
+        self.seen = self.wakeups.wait_for_work(self.clock, self.seen);
+        if let (Some(before), Some(now)) = (before, self.wakeups.micros(self.clock)) {
+            let entries = self.count();
+            self.bucket.rest(now.saturating_sub(before), entries);
+        }
+    }
+
     // Lets the next slice through.
     fn pass(&mut self)
         ensures { self.new.polls ≡ self.old.polls }
@@ -330,8 +362,7 @@ impl<'a, C: Wait + Clock + Print> WorkGate<'a, C> {
         if self.unread > 0 {
             self.wait_for_readers();
         }
-        if self.free > 0 {
-            self.free -= 1;
+        if self.bucket.take() {
             self.paused = self.slices;
             return;
         }
@@ -368,9 +399,7 @@ impl<'a, C: Wait + Clock + Print> WorkGate<'a, C> {
     {
         let most = Duration::from_micros(lag_pause(self.unread));
         self.unread = 0;
-        self.seen = self
-            .wakeups
-            .wait_for_work_timeout(self.clock, self.seen, most);
+        self.seen = self.wakeups.wait_for_readers(self.clock, self.seen, most);
     }
 }
 
@@ -380,18 +409,20 @@ impl<'a, C: Wait + Clock + Print> WorkerGate for WorkGate<'a, C> {
     fn before<R: Wait>(&mut self, rt: &R, slices: u64) -> bool {
         self.slices = slices;
         if self.is_full() {
+            self.wakeups.rest();
             self.polls.add_before_no(rt);
             return false;
         }
         self.pass();
+        self.wakeups.begin_slice();
         self.polls.add_before_yes(rt);
         true
     }
 
     fn idle<R: Wait>(&mut self, rt: &R) -> bool {
+        self.wakeups.rest();
         self.wakeups.wake_writers();
-        self.seen = self.wakeups.wait_for_work(self.clock, self.seen);
-        self.free = free_slices();
+        self.wait_for_work();
         self.unread = 0;
         self.gap = SHORTEST_GAP;
         if self.is_full() {
@@ -403,6 +434,7 @@ impl<'a, C: Wait + Clock + Print> WorkerGate for WorkGate<'a, C> {
     }
 
     fn wake<R: Wait>(&mut self, rt: &R) {
+        self.wakeups.end_slice();
         match self.wakeups.micros(self.clock) {
             Some(now) => {
                 // The worker may pause before the next slice.

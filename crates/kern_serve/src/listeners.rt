@@ -2,6 +2,7 @@
 use crate::host::TcpNet;
 use jup_wire::channel::Channel;
 use jup_wire::connection_file::ConnectionFile;
+use kern_waits::port::Port;
 use std::io;
 use std::net::{Ipv4Addr, TcpListener};
 
@@ -66,18 +67,14 @@ impl Listeners {
         }
     }
 
-    /// The listener of a channel.
-    pub fn of(&self, channel: Channel) -> &TcpListener {
-        match channel {
-            Channel::Shell => &self.shell,
-            Channel::Iopub => &self.iopub,
-            Channel::Stdin => &self.stdin,
-            Channel::Control => &self.control,
+    /// The listener of a port.
+    pub fn of(&self, port: Port) -> &TcpListener {
+        match port {
+            Port::Channel(Channel::Shell) => &self.shell,
+            Port::Channel(Channel::Iopub) => &self.iopub,
+            Port::Channel(Channel::Stdin) => &self.stdin,
+            Port::Channel(Channel::Control) => &self.control,
+            Port::Heartbeat => &self.heartbeat,
         }
-    }
-
-    /// The listener of the heartbeat.
-    pub fn heartbeat(&self) -> &TcpListener {
-        &self.heartbeat
     }
 }

@@ -9,7 +9,7 @@ use std::random::RandomSource;
 pub fn new_session(alloc: Global, rt: &impl RandomSource) -> Result<Text, ServerFault> {
     let mut random = [0u8; 16];
     if rt.fill_bytes(&mut random).is_err() {
-        return Err(ServerFault::System);
+        return Err(ServerFault::NoRandom);
     }
     match session_name(alloc, random) {
         Ok(name) => Ok(name),

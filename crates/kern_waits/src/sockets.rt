@@ -1,4 +1,5 @@
 //! Closing sockets, and system calls on them that the standard library lacks.
+use crate::port::PORTS;
 use libc::net as c;
 use libc::types::pollfd;
 use std::net::{Shutdown, TcpListener, TcpStream};
@@ -39,14 +40,40 @@ pub fn keep_alive(stream: &TcpStream) {
     let _ = unsafe { c::setsockopt(fd, c::IPPROTO_TCP, c::TCP_USER_TIMEOUT, &unacknowledged, 4) };
 }
 
-/// Waits until there is a connection to accept.
-pub fn await_connection(listener: &TcpListener) {
-    let mut fds = [pollfd {
-        fd: listener.as_raw_fd(),
-        events: c::POLLIN,
+// What a poll looks for on a socket, if there is one.
+fn polled(fd: Option<i32>, events: i16) -> pollfd {
+    pollfd {
+        // The system ignores a negative number.
+        fd: fd.unwrap_or(-1),
+        events,
         revents: 0,
-    }];
-    let _ = c::poll(&mut fds, -1);
+    }
+}
+
+/// Waits until there is a connection to accept on one of these listeners, but no longer than so many
+/// milliseconds, if a number is given. Returns on which there are some.
+pub fn await_connections(
+    listeners: [Option<&TcpListener>; PORTS],
+    millis: Option<u16>,
+) -> [bool; PORTS] {
+    let mut fds = listeners.map(|listener| polled(
+        listener.map(|listener| listener.as_raw_fd()),
+        c::POLLIN,
+    ));
+    let most = match millis {
+        Some(millis) => i32::from(millis),
+        None => -1,
+    };
+    let _ = c::poll(&mut fds, most);
+    fds.map(|fd| fd.revents != 0)
+}
+
+/// Waits for so many milliseconds, a second at most, but no longer than until the peer has closed its side.
+/// Returns whether it has.
+pub fn await_end(stream: &TcpStream, millis: u64) -> bool {
+    let mut fds = [polled(Some(stream.as_raw_fd()), c::POLLRDHUP)];
+    let _ = c::poll(&mut fds, millis.min(1_000) as i32);
+    fds[0].revents & (c::POLLRDHUP | c::POLLHUP | c::POLLERR) != 0
 }
 
 /// Ends all reads and writes on a socket, in whatever thread.

@@ -1,4 +1,5 @@
-//! The throttles of a server's channels, shared by all its connection threads.
+//! The throttles of a server's ports, shared by all its connection threads.
+use crate::port::Port;
 use crate::stopwatch::Stopwatch;
 use jup_wire::channel::Channel;
 use kern_pace::budget::Budget;
@@ -8,31 +9,32 @@ use std::sync::{Mutex, Wait};
 use std::thread;
 use std::time::Duration;
 
-// How long a channel delays peers that haven't shown the key.
+// How long a port delays peers that haven't shown the key.
 #[derive(Drop)]
-struct ChannelThrottle {
+struct PortThrottle {
     joins: Mutex<Throttle>,
     bytes: Mutex<Budget>,
 }
 
-impl ChannelThrottle {
-    fn new() -> ChannelThrottle {
-        ChannelThrottle {
+impl PortThrottle {
+    fn new() -> PortThrottle {
+        PortThrottle {
             joins: Mutex::new(Throttle::new()),
             bytes: Mutex::new(Budget::new()),
         }
     }
 }
 
-/// How long each channel delays peers that haven't shown the key, when they join and when their bytes are
+/// How long each port delays peers that haven't shown the key, when they join and when their bytes are
 /// read.
 #[derive(Drop)]
 pub struct Throttles {
     stopwatch: Stopwatch,
-    shell: ChannelThrottle,
-    iopub: ChannelThrottle,
-    stdin: ChannelThrottle,
-    control: ChannelThrottle,
+    shell: PortThrottle,
+    iopub: PortThrottle,
+    stdin: PortThrottle,
+    control: PortThrottle,
+    heartbeat: PortThrottle,
 }
 
 impl Throttles {
@@ -40,19 +42,21 @@ impl Throttles {
     pub fn new<C: Clock>(clock: &C) -> Throttles {
         Throttles {
             stopwatch: Stopwatch::new(clock),
-            shell: ChannelThrottle::new(),
-            iopub: ChannelThrottle::new(),
-            stdin: ChannelThrottle::new(),
-            control: ChannelThrottle::new(),
+            shell: PortThrottle::new(),
+            iopub: PortThrottle::new(),
+            stdin: PortThrottle::new(),
+            control: PortThrottle::new(),
+            heartbeat: PortThrottle::new(),
         }
     }
 
-    fn of(&self, channel: Channel) -> &ChannelThrottle {
-        match channel {
-            Channel::Shell => &self.shell,
-            Channel::Iopub => &self.iopub,
-            Channel::Stdin => &self.stdin,
-            Channel::Control => &self.control,
+    fn of(&self, port: Port) -> &PortThrottle {
+        match port {
+            Port::Channel(Channel::Shell) => &self.shell,
+            Port::Channel(Channel::Iopub) => &self.iopub,
+            Port::Channel(Channel::Stdin) => &self.stdin,
+            Port::Channel(Channel::Control) => &self.control,
+            Port::Heartbeat => &self.heartbeat,
         }
     }
 
@@ -61,7 +65,7 @@ impl Throttles {
         let Some(now) = self.stopwatch.millis(rt) else {
             return;
         };
-        let wait = self.of(channel).joins.lock(rt).admit(now);
+        let wait = self.of(Port::Channel(channel)).joins.lock(rt).admit(now);
         if wait > 0 {
             thread::sleep(rt, Duration::from_millis(wait));
         }
@@ -70,21 +74,24 @@ impl Throttles {
     /// Counts an unauthenticated peer that has left a channel.
     pub fn add_unauthenticated<R: Wait + Clock>(&self, rt: &R, channel: Channel) {
         if let Some(now) = self.stopwatch.millis(rt) {
-            self.of(channel).joins.lock(rt).add_unauthenticated(now);
+            self.of(Port::Channel(channel))
+                .joins
+                .lock(rt)
+                .add_unauthenticated(now);
         }
     }
 
-    /// Counts unsigned bytes that were read on a channel.
-    pub fn spend<R: Wait + Clock>(&self, rt: &R, channel: Channel, bytes: u32) {
+    /// Counts unsigned bytes that were read on a port.
+    pub fn spend<R: Wait + Clock>(&self, rt: &R, port: Port, bytes: u32) {
         if let Some(now) = self.stopwatch.millis(rt) {
-            self.of(channel).bytes.lock(rt).spend(now, u64::from(bytes));
+            self.of(port).bytes.lock(rt).spend(now, u64::from(bytes));
         }
     }
 
     /// How long to wait before more unsigned bytes are read, in milliseconds.
-    pub fn wait_for_bytes<R: Wait + Clock>(&self, rt: &R, channel: Channel) -> u64 {
+    pub fn wait_for_bytes<R: Wait + Clock>(&self, rt: &R, port: Port) -> u64 {
         match self.stopwatch.millis(rt) {
-            Some(now) => self.of(channel).bytes.lock(rt).wait(now),
+            Some(now) => self.of(port).bytes.lock(rt).wait(now),
             None => 0,
         }
     }

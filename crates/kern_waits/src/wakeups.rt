@@ -22,9 +22,14 @@ const TARGETED_PER_ROUND: u64 = 256;
 // How many posts a request makes that gives the worker nothing to do: busy, its reply, and idle.
 const POSTS_OF_A_REQUEST: u64 = 3;
 
-// How long the statuses of debug requests may be delayed, in microseconds: a little less than a quarter of a
-// second.
+// How long the statuses of debug requests may be delayed, in microseconds: nearly a quarter of a second, or a
+// second while a cell runs for many subscribers, each of whom fetches them.
 const STATUS_MICROS: u64 = 245_000;
+
+const STATUS_MICROS_OF_MANY: u64 = 980_000;
+
+// How many subscribers aren't many.
+const FEW_SUBSCRIBERS: u64 = 4;
 
 /// A connection slot of a channel, numbered from 0.
 #[derive(Clone, Copy)]
@@ -103,6 +108,13 @@ pub struct Wakeups {
     writers_ended: Condvar,
     entries: AtomicU64,
     subscriptions: AtomicU64,
+    // How many slices the worker has begun and ended, and whether it has nothing to do.
+    begun: AtomicU64,
+    ended: EventCount,
+    is_resting: AtomicBool,
+    // How many requests wait for the end of a slice, and whether the worker waits for readers.
+    requests_waiting: AtomicU64,
+    is_held: AtomicBool,
 }
 
 // A number of event counts of 0.
@@ -141,6 +153,11 @@ impl Wakeups {
             writers_ended: Condvar::new(),
             entries: AtomicU64::new(0),
             subscriptions: AtomicU64::new(0),
+            begun: AtomicU64::new(0),
+            ended: EventCount::new(),
+            is_resting: AtomicBool::new(true),
+            requests_waiting: AtomicU64::new(0),
+            is_held: AtomicBool::new(false),
         })
     }
 
@@ -203,7 +220,8 @@ impl Wakeups {
     }
 
     /// Wakes this connection's writer for the reply to a debug request. Its statuses go out with what is
-    /// written on iopub next, after a quarter of a second at most.
+    /// written on iopub next, after a quarter of a second at most, or a second while a cell runs for many
+    /// subscribers.
     pub fn after_look<C: Clock>(&self, clock: &C, own: &EventCount) {
         self.requests.fetch_add(1, Ordering::SeqCst);
         own.notify();
@@ -221,19 +239,23 @@ impl Wakeups {
         self.stopwatch.micros(clock)
     }
 
-    // How much longer the statuses of debug requests may be delayed, in microseconds.
-    fn remaining_delay(&self, now: u64) -> u64 {
-        let until = self
-            .looked
-            .load(Ordering::SeqCst)
-            .saturating_add(STATUS_MICROS);
+    // How much longer the statuses of debug requests may be delayed, in microseconds, if they may wait for
+    // `most` in all.
+    fn remaining_delay(&self, now: u64, most: u64) -> u64 {
+        let until = self.looked.load(Ordering::SeqCst).saturating_add(most);
         until.saturating_sub(now)
     }
 
-    /// Wakes the writers of iopub if there are delayed statuses that must go out within the next `micros`
-    /// microseconds.
+    /// Wakes the writers of iopub while a cell runs, if there are delayed statuses that must go out within
+    /// the next `micros` microseconds.
     pub fn flush_statuses(&self, now: u64, micros: u64) {
-        if self.has_looks.load(Ordering::SeqCst) && self.remaining_delay(now) <= micros {
+        let most = if self.subscribers.load(Ordering::SeqCst) > FEW_SUBSCRIBERS {
+            STATUS_MICROS_OF_MANY
+        } else {
+            STATUS_MICROS
+        };
+        let delay = self.remaining_delay(now, most);
+        if self.has_looks.load(Ordering::SeqCst) && delay <= micros {
             self.wake_iopub();
         }
     }
@@ -308,7 +330,7 @@ impl Wakeups {
             let mut count = self.work.wait_unless(rt, seen, &self.has_looks);
             if count == seen {
                 let most = match self.micros(rt) {
-                    Some(now) => self.remaining_delay(now),
+                    Some(now) => self.remaining_delay(now, STATUS_MICROS),
                     None => 0,
                 };
                 count = self
@@ -327,6 +349,52 @@ impl Wakeups {
     /// count.
     pub fn wait_for_work_timeout<R: Wait>(&self, rt: &R, seen: u64, most: Duration) -> u64 {
         self.work.wait_timeout(rt, seen, most)
+    }
+
+    /// The same, but it doesn't wait while a request waits for the end of a slice.
+    pub fn wait_for_readers<R: Wait>(&self, rt: &R, seen: u64, most: Duration) -> u64 {
+        self.is_held.store(true, Ordering::SeqCst);
+        let is_needed = self.requests_waiting.load(Ordering::SeqCst) != 0;
+        let most = if is_needed { Duration::ZERO } else { most };
+        let count = self.work.wait_timeout(rt, seen, most);
+        self.is_held.store(false, Ordering::SeqCst);
+        count
+    }
+
+    /// Notes that the worker begins a slice.
+    pub fn begin_slice(&self) {
+        self.is_resting.store(false, Ordering::SeqCst);
+        self.begun.fetch_add(1, Ordering::SeqCst);
+    }
+
+    /// Notes that the worker has ended a slice.
+    pub fn end_slice(&self) {
+        self.ended.notify();
+    }
+
+    /// Notes that the worker makes no slice until it has something to do.
+    pub fn rest(&self) {
+        self.is_resting.store(true, Ordering::SeqCst);
+        self.ended.wake();
+    }
+
+    /// Waits until a slice that begins from now on has ended, or the worker has nothing to do. One slice
+    /// loads a cell, which is posted, and the next one starts its run. So if a peer has heard of a cell, its
+    /// run has started once this returns.
+    pub fn await_slice<R: Wait>(&self, rt: &R) {
+        let next = self.begun.load(Ordering::SeqCst).saturating_add(1);
+        self.requests_waiting.fetch_add(1, Ordering::SeqCst);
+        if self.is_held.load(Ordering::SeqCst) {
+            self.work.wake();
+        }
+        for _ in rt.forever() {
+            let ended = self.ended.count();
+            if ended >= next || self.is_resting.load(Ordering::SeqCst) {
+                break;
+            }
+            self.ended.wait_unless(rt, ended, &self.is_resting);
+        }
+        self.requests_waiting.fetch_sub(1, Ordering::SeqCst);
     }
 
     /// Whether the worker has ended, so that it posts nothing more.
@@ -358,6 +426,7 @@ impl Wakeups {
     /// `most`.
     pub fn close<R: Wait + Clock>(&self, rt: &R, most: Duration) {
         self.is_closing.store(true, Ordering::SeqCst);
+        self.rest();
         self.wake_writers();
         let _ = self
             .writers_ended

@@ -1,15 +1,8 @@
 use Rattle.std.proofs.Common.{ap}
 use Rattle.kern_waits.specs.declared.wakeups.Slot.{Slot}
-use Rattle.kern_host.specs.Visits.{NoVisit}
 use Rattle.kern_serve.specs.Houses.{house_of}
 use Rattle.kern_serve.proofs.VisitLemmas.{one_visit}
 use Rattle.kern_serve.proofs.connection.serve_connection.Goals as goal
-
-pub returns-then-is_err : goal.returns-then-is_err
-returns-then-is_err g c = NoVisit
-
-pub returns-in_default : goal.returns-in_default
-returns-in_default g c = NoVisit
 
 pub returns : goal.returns
 returns g c =

@@ -2,7 +2,7 @@ use Rattle.std.specs.Prelude.{Some}
 use Rattle.kern_host.specs.Guests.{AreOf}
 use Rattle.kern_host.specs.Visits.{VisitsEach}
 use Rattle.kern_serve.specs.Houses.{house_of}
-use Rattle.kern_serve.proofs.server.serve_slot.Given as goal
+use Rattle.kern_serve.proofs.tasks.serve_slot.Given as goal
 
 abbrev pub invariant-loop : goal.invariant-loop
 invariant-loop g l = record {

@@ -1,10 +1,9 @@
-//! Sockets: their options, how they are read, and the heartbeat.
-use base_streams::std_io::{StdInlet, StdOutlet};
+//! Sockets: their options, and how they are read.
+use crate::port::Port;
+use crate::sockets::{close, keep_alive};
+use crate::throttles::Throttles;
+use crate::unsigned::{FREE_BYTES, Late, UnsignedStream};
 use jup_wire::channel::Channel;
-use kern_waits::sockets::{close, keep_alive};
-use kern_waits::throttles::Throttles;
-use kern_waits::unsigned::{FREE_BYTES, UnsignedStream};
-use std::alloc::Global;
 use std::io;
 use std::io::Read;
 use std::net::TcpStream;
@@ -12,13 +11,19 @@ use std::rt::Clock;
 use std::sync::Wait;
 use std::sync::atomic::{AtomicBool, Ordering};
 use std::time::{Duration, Instant};
-use zmtp_wire::heartbeat::heartbeat;
 
-// How long a handshake may take, and how long a write may wait.
+// How long a handshake may take, and how long a write or a read of unsigned bytes may wait.
 const PATIENCE_SECONDS: u64 = 10;
 
-// The size of a greeting, in bytes.
-const GREETING_SIZE: usize = 64;
+// A read without patience still takes what has come.
+const LAST_LOOK_MILLIS: u64 = 1;
+
+// How many bytes may come before a message has opened, without being delayed: more than a request with the
+// longest cell has.
+const FREE_BYTES_OF_A_REQUEST: usize = 1_310_720;
+
+// How many are free where short messages come: lines on stdin, and beats, those of an hour and more.
+const FREE_BYTES_OF_LINES: usize = 65_536;
 
 fn patience() -> Duration {
     Duration::from_secs(PATIENCE_SECONDS)
@@ -32,24 +37,20 @@ pub fn prepare(stream: &TcpStream) -> io::Result<()> {
     stream.set_write_timeout(Some(patience()))
 }
 
-// A socket from which more than `first` bytes must come in time. Later reads may wait for ever.
+// A socket whose reads must end in time.
 #[derive(Drop)]
 struct PatientStream<'a, C: Clock> {
     stream: &'a TcpStream,
     clock: &'a C,
     begun: Option<Instant>,
-    first: usize,
-    read: usize,
 }
 
 impl<'a, C: Clock> PatientStream<'a, C> {
-    fn new(stream: &'a TcpStream, clock: &'a C, first: usize) -> PatientStream<'a, C> {
+    fn new(stream: &'a TcpStream, clock: &'a C) -> PatientStream<'a, C> {
         PatientStream {
             stream,
             clock,
             begun: Instant::now(clock).ok(),
-            first,
-            read: 0,
         }
     }
 
@@ -66,20 +67,23 @@ impl<'a, C: Clock> PatientStream<'a, C> {
 }
 
 impl<'a, C: Clock> Read for PatientStream<'a, C> {
-    // A read with no time left fails.
+    // Where no time is left, a read fails unless something has come.
     fn read(&mut self, buffer: &mut [u8]) -> io::Result<usize> {
         let mut stream = self.stream;
-        if self.read > self.first {
-            return stream.read(buffer);
-        }
-        stream.set_read_timeout(Some(self.rest()))?;
-        let count = stream.read(buffer)?;
-        self.read = self.read.saturating_add(count);
-        if self.read > self.first {
-            stream.set_read_timeout(None)?;
-        }
-        Ok(count)
+        let most = self.rest().max(Duration::from_millis(LAST_LOOK_MILLIS));
+        stream.set_read_timeout(Some(most))?;
+        stream.read(buffer)
     }
+}
+
+/// What decides how a connection is read: the clock, the throttles, whether its handshake is done, and
+/// whether a message has opened.
+#[derive(Drop)]
+pub struct Watch<'a, R: Wait + Clock> {
+    pub rt: &'a R,
+    pub throttles: &'a Throttles,
+    pub has_met: &'a AtomicBool,
+    pub is_heard: &'a AtomicBool,
 }
 
 /// A connection's socket, from which it is read. The handshake must come within ten seconds; after it a read
@@ -91,35 +95,44 @@ pub struct PeerStream<'a, R: Wait + Clock> {
     has_met: &'a AtomicBool,
 }
 
+// How many bytes after the handshake are free.
+fn free_bytes(port: Port) -> usize {
+    match port {
+        Port::Channel(Channel::Iopub) => FREE_BYTES / 2,
+        Port::Channel(Channel::Shell | Channel::Control) => FREE_BYTES_OF_A_REQUEST,
+        Port::Channel(Channel::Stdin) | Port::Heartbeat => FREE_BYTES_OF_LINES,
+    }
+}
+
 impl<'a, R: Wait + Clock> PeerStream<'a, R> {
-    /// The socket of a new connection on a channel. The flag is to be set once the handshake is made.
-    pub fn new(
-        rt: &'a R,
-        throttles: &'a Throttles,
-        channel: Channel,
-        stream: &'a TcpStream,
-        has_met: &'a AtomicBool,
-    ) -> PeerStream<'a, R> {
+    /// The socket of a new connection on a port.
+    pub fn new(watch: Watch<'a, R>, port: Port, stream: &'a TcpStream) -> PeerStream<'a, R> {
         PeerStream {
             greeting: UnsignedStream {
-                stream: PatientStream::new(stream, rt, usize::MAX),
-                rt,
-                throttles,
-                channel,
-                is_signed: false,
+                stream: PatientStream::new(stream, watch.rt),
+                peer: stream,
+                rt: watch.rt,
+                throttles: watch.throttles,
+                port,
+                is_heard: watch.is_heard,
+                free: FREE_BYTES,
                 patience: PATIENCE_SECONDS * 1_000,
+                late: Late::Reads,
                 read: 0,
             },
             traffic: UnsignedStream {
                 stream,
-                rt,
-                throttles,
-                channel,
-                is_signed: channel != Channel::Iopub,
-                patience: u64::MAX,
-                read: FREE_BYTES / 2,
+                peer: stream,
+                rt: watch.rt,
+                throttles: watch.throttles,
+                port,
+                is_heard: watch.is_heard,
+                free: free_bytes(port),
+                patience: PATIENCE_SECONDS * 1_000,
+                late: Late::Ends,
+                read: 0,
             },
-            has_met,
+            has_met: watch.has_met,
         }
     }
 }
@@ -138,13 +151,4 @@ pub fn lift_timeout(stream: &TcpStream) {
     if stream.set_read_timeout(None).is_err() {
         close(stream);
     }
-}
-
-/// Serves a heartbeat socket until it ends. More than a greeting must come within ten seconds.
-pub fn serve_heartbeat<C: Clock>(clock: &C, alloc: Global, stream: &TcpStream) -> io::Result<()> {
-    prepare(stream)?;
-    let mut from = StdInlet::new(PatientStream::new(stream, clock, GREETING_SIZE));
-    let mut to = StdOutlet::new(stream);
-    let _ = heartbeat(alloc, &mut from, &mut to);
-    Ok(())
 }

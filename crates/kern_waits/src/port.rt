@@ -1,0 +1,38 @@
+//! The sockets of a kernel.
+ghost use Rattle.std.specs.Prelude.{◌<◌};
+
+use jup_wire::channel::Channel;
+
+/// A socket of the kernel: a channel's, or the heartbeat's.
+#[derive(Clone, Copy)]
+pub enum Port {
+    Channel(Channel),
+    Heartbeat,
+}
+
+/// How many ports a kernel has.
+pub const PORTS: usize = 5;
+
+/// The ports of a kernel.
+pub const ALL_PORTS: [Port; PORTS] = [
+    Port::Channel(Channel::Shell),
+    Port::Channel(Channel::Iopub),
+    Port::Channel(Channel::Stdin),
+    Port::Channel(Channel::Control),
+    Port::Heartbeat,
+];
+
+impl Port {
+    /// Its place among all ports.
+    pub fn place(self) -> usize
+        ensures { result < 5 }
+    {
+        match self {
+            Port::Channel(Channel::Shell) => 0,
+            Port::Channel(Channel::Iopub) => 1,
+            Port::Channel(Channel::Stdin) => 2,
+            Port::Channel(Channel::Control) => 3,
+            Port::Heartbeat => 4,
+        }
+    }
+}
