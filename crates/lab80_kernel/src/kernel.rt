@@ -37,13 +37,23 @@ fn listen<R: Print + Net<Listener = TcpListener, Stream = TcpStream>>(
 }
 
 // Prints how serving ended, where that needs a line, and returns the status.
-fn tell_end(rt: &impl Print, end: Result<ServerEnd, ServerFault>) -> Status {
+fn tell_end(rt: &(impl Print + Eprint), end: Result<ServerEnd, ServerFault>) -> Status {
     match end {
         Ok(ServerEnd::ShutDown) => Status::Success,
         // A full journal has the status of out of memory, since there is no room for another call.
         Ok(ServerEnd::JournalFull) => say(rt, "journal full", Status::OutOfMemory),
-        Err(ServerFault::OutOfMemory) => Status::OutOfMemory,
-        Err(ServerFault::System) => Status::Failed,
+        Err(fault) => {
+            let _ = eprintln!(rt; "{fault}");
+            status_of(fault)
+        }
+    }
+}
+
+// The status of a server that can't start or go on.
+fn status_of(fault: ServerFault) -> Status {
+    match fault {
+        ServerFault::OutOfMemory | ServerFault::NoThreads => Status::OutOfMemory,
+        ServerFault::NoRandom | ServerFault::WriteFailed | ServerFault::Refused => Status::Failed,
     }
 }
 
@@ -66,6 +76,7 @@ fn prepare<R: Files + Print + AllocGlobal + Net<Listener = TcpListener, Stream =
 pub fn run_kernel<
     R: Files
         + Print
+        + Eprint
         + AllocGlobal
         + Net<Listener = TcpListener, Stream = TcpStream>
         + RandomSource
@@ -80,6 +91,7 @@ pub fn run_kernel<
 >(rt: &R, file: &str) -> Status {
     match prepare(rt, file) {
         Ok((listeners, file)) => tell_end(rt, serve(rt, rt.alloc(), listeners, file)),
+        Err(Status::OutOfMemory) => tell_end(rt, Err(ServerFault::OutOfMemory)),
         Err(status) => status,
     }
 }

@@ -4,6 +4,7 @@
 // subcommand `step` is the program lab80_step's, `asm` and `dis` are lab80's.
 #![tactic(auto)]
 
+mod closed;
 mod file;
 mod kernel;
 mod line;
@@ -11,9 +12,11 @@ mod term;
 
 use cli_io::command::{Command, read_command};
 use cli_io::words::{read_words, show_usage};
+use closed::replace_closed;
 use std::process::ExitCode;
 
 fn main(rt: HostRuntime) -> ExitCode {
+    let _closed = replace_closed(&rt);
     let words = match read_words(&rt) {
         Ok(words) => words,
         Err(status) => return ExitCode::from(status.number()),

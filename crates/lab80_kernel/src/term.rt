@@ -19,7 +19,7 @@ use std::random::RandomSource;
 use std::rt::{Clock, Files};
 use std::{io, str};
 
-// What is printed if there is no connection to a kernel.
+// What is printed if there is no connection to a kernel that has the file's key.
 const NO_KERNEL: &str = "no kernel";
 
 type Socket = Connection<StdInlet<TcpStream>, StdOutlet<TcpStream>>;
@@ -61,14 +61,15 @@ fn connect_both<R: Net<Listener = TcpListener, Stream = TcpStream>>(
     }
 }
 
-fn status_of(ran: Result<CellEnd, TermFault>) -> Status {
+// Prints how the cell ended, where that needs a line, and returns the status.
+fn tell_end(rt: &impl Print, ran: Result<CellEnd, TermFault>) -> Status {
     match ran {
         Ok(CellEnd::Success) => Status::Success,
         Ok(CellEnd::Error) => Status::Refused,
         Err(TermFault::OutOfMemory) => Status::OutOfMemory,
-        Err(
-            TermFault::Ended | TermFault::ReadFailed | TermFault::WriteFailed | TermFault::Wire(_),
-        ) => Status::Failed,
+        Err(TermFault::Ended | TermFault::ReadFailed | TermFault::WriteFailed) => Status::Failed,
+        // Somebody else answers there, or a kernel with another key.
+        Err(TermFault::Wire(_)) => say(rt, NO_KERNEL, Status::Failed),
     }
 }
 
@@ -90,7 +91,7 @@ fn run_over<R: Print + AllocGlobal>(
     if output.into_inner().flush().is_err() {
         return Status::Failed;
     }
-    status_of(ran)
+    tell_end(rt, ran)
 }
 
 fn run_named<R: Net<Listener = TcpListener, Stream = TcpStream> + Print + AllocGlobal + Clock>(
@@ -126,7 +127,7 @@ fn run<
     match new_session(rt.alloc(), rt) {
         Ok(session) => run_named(rt, file, code, session.as_str()),
         Err(ServerFault::OutOfMemory) => Status::OutOfMemory,
-        Err(ServerFault::System) => Status::Failed,
+        Err(_) => Status::Failed,
     }
 }
 
