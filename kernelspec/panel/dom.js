@@ -22,6 +22,8 @@ export function make(tag, members = {}, ...children) {
     return made;
 }
 
+export const passed = milliseconds => new Promise(done => setTimeout(done, milliseconds));
+
 /** Returns a function that runs tasks one after the other, so that no two of them read and write at once. */
 export function turns() {
     let last = Promise.resolve();

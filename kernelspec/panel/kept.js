@@ -1,0 +1,56 @@
+// The snapshots of boards that the browser keeps, in a database of its own: 64 KiB of memory are much for localStorage. Only the
+// newest few boards stay. A board is named by its kernel and by the session in the kernel's messages, since a kernel that was
+// restarted has its old name and a new session.
+
+// The form of a snapshot; those of another one are passed over.
+export const VERSION = 1;
+
+const MOST_BOARDS = 8, DATABASE = "lab80", STORE = "boards";
+
+// This page's last snapshot, for browsers that keep nothing.
+let own = null;
+
+function opened() {
+    return new Promise((done, fail) => {
+        const request = indexedDB.open(DATABASE, 1);
+        request.onupgradeneeded = () => request.result.createObjectStore(STORE, {keyPath: "name"});
+        request.onsuccess = () => done(request.result);
+        request.onerror = request.onblocked = () => fail(request.error);
+    });
+}
+
+/** Does some work with the store, and waits until it is written. The work returns a request, whose result this returns. */
+async function inStore(mode, work) {
+    const database = await opened();
+    try {
+        return await new Promise((done, fail) => {
+            const transaction = database.transaction(STORE, mode), request = work(transaction.objectStore(STORE));
+            transaction.oncomplete = () => done(request.result);
+            transaction.onabort = transaction.onerror = () => fail(transaction.error);
+        });
+    } finally {
+        database.close();
+    }
+}
+
+/** Keeps a snapshot in place of this board's last one, and drops the oldest boards. If the browser keeps nothing, or its room is
+ *  used up, this page alone has it. */
+export async function keepBoard(snapshot) {
+    own = snapshot;
+    const drop = store => ({target}) => {
+        const old = target.result.sort((one, other) => other.at - one.at).slice(MOST_BOARDS);
+        for (const {name} of old) store.delete(name);
+    };
+    await inStore("readwrite", store => {
+        const put = store.put(snapshot);
+        store.getAll().onsuccess = drop(store);
+        return put;
+    }).catch(() => {});
+}
+
+/** The newest snapshot of a kernel's boards; null if there is none. */
+export async function newestOf(kernel) {
+    const found = await inStore("readonly", store => store.getAll()).catch(() => []);
+    const mine = [own, ...found].filter(each => each && each.kernel === kernel && each.version === VERSION);
+    return mine.reduce((one, other) => one && one.at >= other.at ? one : other, null);
+}
