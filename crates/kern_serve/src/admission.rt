@@ -17,7 +17,7 @@ const SHORT_PAUSE: u16 = 10;
 
 // How long to wait where no connection can leave yet, no thread can be started, or no connection can be
 // accepted, for example because too many files are open.
-const LONG_PAUSE: u16 = 250;
+const LONG_PAUSE: u16 = 50;
 
 // What is known of the ports.
 #[derive(Drop)]

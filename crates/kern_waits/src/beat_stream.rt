@@ -67,7 +67,7 @@ impl Opening {
 }
 
 /// The socket of a connection of the heartbeat, from which it is read. Its handshake must come in time. Notes
-/// in the slots when that is done, and each beat.
+/// each beat in the slots.
 #[derive(Drop)]
 pub struct BeatStream<'a, R: Wait + Clock> {
     peer: PeerStream<'a, R>,
@@ -105,7 +105,6 @@ impl<'a, R: Wait + Clock> BeatStream<'a, R> {
         if self.opening.missing() == 0 {
             self.has_met.store(true, Ordering::SeqCst);
             lift_timeout(self.stream);
-            self.slots.reach(self.rt, self.slot, Stage::Silent);
         }
     }
 }

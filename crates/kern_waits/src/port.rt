@@ -1,5 +1,6 @@
 //! The sockets of a kernel.
-ghost use Rattle.std.specs.Prelude.{◌<◌};
+ghost use Rattle.std.specs.Prelude.{◌≡◌, ◌<◌, slice_get, Some};
+ghost use Rattle.kern_waits.specs.declared.port.TheConstants.{ALL_PORTS};
 
 use jup_wire::channel::Channel;
 
@@ -25,7 +26,8 @@ pub const ALL_PORTS: [Port; PORTS] = [
 impl Port {
     /// Its place among all ports.
     pub fn place(self) -> usize
-        ensures { result < 5 }
+        ensures place { slice_get ALL_PORTS result ≡ Some self }
+        ensures bound { result < 5 }
     {
         match self {
             Port::Channel(Channel::Shell) => 0,

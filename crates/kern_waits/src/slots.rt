@@ -1,12 +1,12 @@
-//! Which connection has which slot of a port. If all slots are taken and another connection waits, one is
-//! closed whose peer hasn't shown the key.
+//! Which connection has which slot of a port. If all slots are taken and another connection waits, kern_pace
+//! says which one is closed for it.
 use crate::event_count::EventCount;
 use crate::port::Port;
 use crate::sockets::close;
 use crate::stopwatch::Stopwatch;
 use crate::wakeups::SLOTS;
 use jup_wire::channel::Channel;
-use kern_pace::eviction::{Stage, can_leave};
+use kern_pace::eviction::{Occupancy, Stage, leaver};
 use std::alloc::{AllocError, Global};
 use std::net::TcpStream;
 use std::rt::Clock;
@@ -51,51 +51,34 @@ fn new_slots(alloc: Global) -> Result<PortSlots, AllocError> {
     })
 }
 
-// Whether a connection is among those of which the newest may lose its slot.
-#[derive(Clone, Copy, PartialEq, Eq)]
-enum Standing {
-    // Its handshake takes too long.
-    Late,
-    // Its peer hasn't shown the key, or hasn't beaten for long.
-    Unproven,
-    Stays,
+// How far a connection of a port has come that has just been accepted.
+fn first_stage(port: Port) -> Stage {
+    match port {
+        Port::Channel(_) => Stage::Handshake,
+        Port::Heartbeat => Stage::Quiet,
+    }
 }
 
 impl Occupant {
-    fn can_leave(&self, now: u64) -> bool {
-        can_leave(self.stage, now.saturating_sub(self.since))
-    }
-
-    fn standing(&self, now: u64) -> Standing {
-        match (self.stage, self.can_leave(now)) {
-            (Stage::Handshake, true) => Standing::Late,
-            (Stage::Silent, _) | (Stage::Beats, true) => Standing::Unproven,
-            (Stage::Handshake | Stage::Beats, false) | (Stage::Heard, _) => Standing::Stays,
+    fn occupancy(&self, now: u64) -> Occupancy {
+        Occupancy {
+            came: self.came,
+            stage: self.stage,
+            millis: now.saturating_sub(self.since),
         }
     }
 }
 
-// The number of the newest connection of a standing, if there is one.
-fn newest(occupants: &[Option<Occupant>], now: u64, standing: Standing) -> Option<usize> {
-    let mut found: Option<(usize, u64)> = None;
-    for (number, place) in occupants.iter().enumerate() {
-        if let Some(occupant) = place
-            && occupant.standing(now) == standing
-            && found.is_none_or(|(_, came)| came <= occupant.came)
-        {
-            found = Some((number, occupant.came));
-        }
+// What kern_pace must know of the connections.
+fn occupancies(occupants: &[Option<Occupant>], now: u64) -> [Option<Occupancy>; SLOTS] {
+    let mut found = [None; SLOTS];
+    for (place, occupant) in found.iter_mut().zip(occupants) {
+        *place = match occupant {
+            Some(occupant) => Some(occupant.occupancy(now)),
+            None => None,
+        };
     }
-    match found {
-        Some((number, _)) => Some(number),
-        None => None,
-    }
-}
-
-// The number of the connection that may lose its slot. Those that fill the slots are the newest. So of those
-// that haven't shown the key only the newest may, and who was there before them stays.
-fn number_to_leave(occupants: &[Option<Occupant>], now: u64) -> Option<usize> {
-    newest(occupants, now, Standing::Late).or(newest(occupants, now, Standing::Unproven))
+    found
 }
 
 // Whether a connection was closed for another one, and hasn't left yet.
@@ -176,7 +159,7 @@ impl Slots {
             *occupant = Some(Occupant {
                 stream,
                 came: now,
-                stage: Stage::Handshake,
+                stage: first_stage(slot.port),
                 since: now,
                 is_evicted: false,
             });
@@ -227,11 +210,11 @@ impl Slots {
         if has_evicted(&occupants) {
             return true;
         }
-        let Some(number) = number_to_leave(&occupants, now) else {
+        let Some(number) = leaver(&occupancies(&occupants, now)) else {
             return false;
         };
         match occupants.get_mut(number) {
-            Some(Some(occupant)) if occupant.can_leave(now) => {
+            Some(Some(occupant)) => {
                 occupant.is_evicted = true;
                 close(&occupant.stream);
                 true
