@@ -18,6 +18,10 @@ from zmtp import Peer
 # As many connections as a channel has places.
 PLACES = 16
 
+# How long Jupyter's client waits for a beat before it takes the kernel for dead. By default it is a second, which a busy machine
+# may take by itself. The kernel lets a newcomer in within half a second; where strangers keep their places for longer, it fails.
+SECONDS_OF_A_BEAT = 3
+
 # The length of a page of memory.
 PAGE = os.sysconf("SC_PAGE_SIZE")
 
@@ -61,6 +65,7 @@ class Kernel:
         """Jupyter's own client, with all five channels."""
         client = BlockingKernelClient(connection_file=self.path)
         client.load_connection_file()
+        client.hb_channel.time_to_dead = SECONDS_OF_A_BEAT
         client.start_channels()
         try:
             yield client
@@ -69,26 +74,18 @@ class Kernel:
 
 
 def wait_until_ready(client, seconds):
-    """How long Jupyter's own client takes to be answered on shell, iopub and control, and its heart to beat; or it fails after
-    some time. It may give up earlier where there is no heartbeat, and is asked again then, as a person would."""
+    """How long Jupyter's own client takes to be answered on shell, iopub and control; or it fails after some time. Its heart must
+    beat all the while: it gives up where it isn't answered on shell within a second, and doesn't beat."""
     began = time.monotonic()
-    until = began + seconds
-    is_ready = False
-    while not is_ready:
-        try:
-            client.wait_for_ready(timeout=max(until - time.monotonic(), 1))
-            is_ready = True
-        except RuntimeError:
-            if time.monotonic() > until:
-                raise
+    client.wait_for_ready(timeout=seconds)
     client.control_channel.send(client.session.msg("kernel_info_request"))
-    client.get_control_msg(timeout=max(until - time.monotonic(), 1))
-    # Its heart passes for beating until it has waited a second for the first beat.
-    while time.monotonic() < began + 2 or not client.hb_channel.is_beating():
-        if time.monotonic() > until:
-            raise TimeoutError("the heart doesn't beat")
-        time.sleep(0.05)
-    return time.monotonic() - began
+    client.get_control_msg(timeout=max(began + seconds - time.monotonic(), 1))
+    taken = time.monotonic() - began
+    # Until it has waited for its first beat, the heart passes for beating.
+    time.sleep(max(SECONDS_OF_A_BEAT + 1 - taken, 0))
+    if not client.hb_channel.is_beating():
+        raise TimeoutError("the heart doesn't beat")
+    return taken
 
 
 def side_by_side(body):
