@@ -1,6 +1,6 @@
 -- Which connection loses its slot where all slots of a port are taken and another connection waits.
 use Rattle.std.specs.Prelude.{ℕ, ◌==◌, ◌&&◌, Bool, true, false, nat_le, if◌then◌else◌, List, max, position}
-use Rattle.std.specs.Prelude.{Option, Some, None, option_and_then, ◌≡◌, ◌≤◌, ◌⊎◌, Contains, HoldsAt, IsTrue}
+use Rattle.std.specs.Prelude.{Option, Some, None, option_and_then, ◌≡◌, ◌≤◌, ◌⊎◌, Contains, IsTrue}
 use Rattle.std.specs.List.{filter_map, reduce}
 use Rattle.std.specs.Option.{option_or}
 use Rattle.kern_pace.specs.declared.eviction.Stage.{Stage}
@@ -9,9 +9,9 @@ use Rattle.kern_pace.specs.declared.eviction.Group.{Group}
 use Rattle.kern_pace.specs.declared.eviction.Group.TheVariants.{Late, Unproven}
 use Rattle.kern_pace.specs.declared.eviction.Occupancy.{Occupancy}
 
--- It may after a second amid its handshake, after five in which it hasn't shown the key; on the heartbeat
--- after half a second without a beat, and a minute after its last one. A peer that has shown the key stays
--- for as long as it likes.
+-- It may leave after a second amid its handshake, and after five in which it hasn't shown the key; on the
+-- heartbeat after half a second without a beat, and a minute after its last one. A peer that has shown the
+-- key stays for as long as it likes.
 abbrev pub may_leave_after : Stage → ℕ → Bool
 may_leave_after Handshake millis = nat_le 1000 millis
 may_leave_after Silent millis = nat_le 5000 millis
@@ -52,7 +52,8 @@ leaves group came (Some c) = is_in group c && c.came == came && can_leave c
 
 -- where the newest connection of a group is, if it can leave
 abbrev pub newest_of : Group → List (Option Occupancy) → Option ℕ
-newest_of group slots = option_and_then (λ came. position (leaves group came) slots) (newest_arrival group slots)
+newest_of group slots =
+    option_and_then (λ came. position (leaves group came) slots) (newest_arrival group slots)
 
 -- the newest of those that are late, or else the newest of those that are unproven
 abbrev pub leaver : List (Option Occupancy) → Option ℕ

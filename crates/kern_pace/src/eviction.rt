@@ -1,6 +1,7 @@
 //! Which connection loses its slot where all slots of a port are taken and another connection waits.
 ghost use Rattle.std.specs.Prelude.{◌≡◌, position, ℕ, List, Option, Some, HoldsAt};
-ghost use Rattle.kern_pace.specs.Evictions.{can_leave, is_in, arrival_in, newest_arrival, leaves, newest_of, leaver, IsNext};
+ghost use Rattle.kern_pace.specs.Evictions.{can_leave, is_in, arrival_in, newest_arrival, leaves};
+ghost use Rattle.kern_pace.specs.Evictions.{newest_of, leaver, IsNext};
 
 /// How far a connection has come.
 #[derive(Clone, Copy)]
@@ -119,9 +120,9 @@ pub fn leaver(slots: &[Option<Occupancy>]) -> Option<usize>
     }
 }
 
-/// Who leaves can leave, and takes too long for what an honest peer does at once or is the newest of those who
-/// haven't shown the key. So a peer that shows it stays, and so does one that keeps still but came before
-/// those who fill the slots.
+/// Who leaves can leave, and takes too long for what an honest peer does at once or is the newest of those
+/// that haven't shown the key. So a peer that shows it stays, and so does one that is silent but came before
+/// those that fill the slots.
 pub fn the_newest_leaves()
     ensures { (slots : List (Option Occupancy)) (place : ℕ) → leaver slots ≡ Some place
         → HoldsAt (IsNext slots) slots place }
