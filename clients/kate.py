@@ -7,10 +7,14 @@ import signal
 import subprocess
 import time
 
+import busy
 from dap_wire import TOP, debugger
 
 # The programs that this needs.
 PROGRAMS = ("kate", "Xvfb", "xdotool", "dbus-run-session")
+
+# The most seconds until something is so, or a small program ends. Kate itself takes a second or two to start.
+PATIENCE = 90
 
 WIDTH, HEIGHT = 1000, 700
 
@@ -59,7 +63,7 @@ def is_here():
     return all(shutil.which(program) for program in PROGRAMS)
 
 
-def wait_for(what, is_so, seconds=30):
+def wait_for(what, is_so, seconds=PATIENCE):
     until = time.monotonic() + seconds
     while not (found := is_so()):
         if time.monotonic() > until:
@@ -123,14 +127,15 @@ class Kate:
         self.key_tool("windowmove", window, "0", "0", "windowsize", window, str(WIDTH), str(HEIGHT), "windowfocus", window)
         wait_for("Kate at rest", self.is_still)
 
-    def is_still(self):
-        """Whether Kate and the processes that it has started take hardly any processor time."""
-        before = self.processor_seconds()
-        time.sleep(0.5)
-        return self.processor_seconds() - before < 0.1
+    def is_still(self, seconds=0.5):
+        """Whether Kate and the processes that it has started want hardly any processor time."""
+        before = self.seconds_wanted()
+        time.sleep(seconds)
+        return self.seconds_wanted() - before < seconds / 5
 
     def processes(self):
-        """The running processes that Kate has started: the name of each, and its processor time in seconds."""
+        """The running processes that Kate has started: the name of each, and the seconds for which it has run, or waited for a
+        processor, so far."""
         for number in filter(str.isdigit, os.listdir("/proc")):
             try:
                 with open(f"/proc/{number}/stat", encoding="utf-8", errors="replace") as file:
@@ -139,13 +144,14 @@ class Kate:
                 continue
             fields = rest.split()
             if int(fields[3]) == self.kate.pid:
-                yield name, (int(fields[11]) + int(fields[12])) / os.sysconf("SC_CLK_TCK")
+                yield name, (int(fields[11]) + int(fields[12])) / os.sysconf("SC_CLK_TCK") + busy.waited(number)
 
-    def processor_seconds(self):
+    def seconds_wanted(self):
         return sum(seconds for _, seconds in self.processes())
 
     def key_tool(self, *words):
-        return subprocess.run(["xdotool", *words], env=self.environment, capture_output=True, text=True, timeout=30, check=False)
+        return subprocess.run(
+            ["xdotool", *words], env=self.environment, capture_output=True, text=True, timeout=PATIENCE, check=False)
 
     def windows(self, *words):
         return self.key_tool("search", "--onlyvisible", *words).stdout.split()
@@ -155,12 +161,12 @@ class Kate:
         before = len(self.windows("--class", "kate"))
         self.key_tool("key", "alt+d")
         wait_for("the menu", lambda: len(self.windows("--class", "kate")) > before)
-        time.sleep(0.2)
+        wait_for("the menu at rest", lambda: self.is_still(0.2))
         self.key_tool("key", letter)
         wait_for("no menu", lambda: len(self.windows("--class", "kate")) <= before)
 
     def picture(self, path):
-        subprocess.run(["scrot", "-o", path], env=self.environment, timeout=30, check=True)
+        subprocess.run(["scrot", "-o", path], env=self.environment, timeout=PATIENCE, check=True)
 
     # ---- messages
 

@@ -15,6 +15,9 @@ from editor import Session
 
 EDITORS = os.path.join(TOP, "editors")
 
+# The most seconds that an editor may run for a test, long, since the machine may be busy.
+PATIENCE = 240
+
 # The expected display in Emacs (emacs_session.el).
 SEEN_IN_EMACS = """\
 lab80-dap-run: SHOW, line 10, cursor in line 10
@@ -103,7 +106,7 @@ class Emacs(Session):
         script = os.path.join(TOP, "clients/emacs_session.el")
         environment = os.environ | {"HOME": self.folder, "LAB80_EDITORS": EDITORS, "LAB80_DAP": debugger()}
         done = subprocess.run(["emacs", "--batch", "-l", script], cwd=self.folder, env=environment, capture_output=True, text=True,
-                              timeout=80, check=False)
+                              timeout=PATIENCE, check=False)
         self.assertEqual((done.returncode, done.stdout), (0, SEEN_IN_EMACS), done.stderr)
 
     def test_its_file_compiles_without_a_warning(self):
@@ -113,7 +116,7 @@ class Emacs(Session):
         words = ["emacs", "--batch", "--eval", "(progn (package-initialize) (setq byte-compile-error-on-warn t))",
                  "-f", "batch-byte-compile", "lab80-dap.el"]
         done = subprocess.run(words, cwd=self.folder, env=os.environ | {"HOME": self.folder}, capture_output=True, text=True,
-                              timeout=80, check=False)
+                              timeout=PATIENCE, check=False)
         self.assertEqual(done.returncode, 0, done.stderr)
 
 
@@ -387,7 +390,8 @@ class Launches(Session):
 
     def printed(self, *words):
         environment = os.environ | {"HOME": self.folder, "LAB80_EDITORS": EDITORS}
-        done = subprocess.run(words, cwd=self.folder, env=environment, capture_output=True, text=True, timeout=80, check=True)
+        done = subprocess.run(words, cwd=self.folder, env=environment, capture_output=True, text=True,
+                              timeout=PATIENCE, check=True)
         return done.stdout
 
 

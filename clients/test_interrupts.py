@@ -15,9 +15,9 @@ from zmtp import message
 # wait, and a cell's first posts wake them at once.
 ROUNDS, SECONDS, REST = 100, 5, 0.02
 
-# The most seconds until something is heard; the worker gets little of a processor. A cell whose interrupt is lost runs for
-# ever.
-PATIENCE = 10
+# The most seconds until something is heard; the worker gets little of a processor, where others use it all a three-hundredth. A
+# cell whose interrupt is lost runs for ever.
+PATIENCE = 60
 
 LOOP = {"code": "X: JMP X\nEND 0\n"}
 

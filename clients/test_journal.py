@@ -5,6 +5,7 @@ import json
 import time
 import unittest
 
+import busy
 from crowds import Kernel
 from streams import header, signed, written
 from test_sharing import COUNTS
@@ -16,12 +17,14 @@ INSTRUCTIONS = 4
 # meanwhile.
 STORE = 524_288 * 4_096
 
-# The instructions that every program has at full speed, and the most seconds that they may take on a busy machine. With pauses
-# they'd take twelve minutes.
-FIRST, SECONDS_OF_THE_FIRST = 1_000_000_000, 40
+# All seconds here are without those in which the worker waits for a processor, which others use.
 
-# The most seconds until the store is used up: some nine on an idle machine.
-SECONDS_OF_THE_STORE = 70
+# The instructions that every program has at full speed, and the most seconds that they may take: some four on a fast machine.
+# With pauses they'd take twelve minutes.
+FIRST, SECONDS_OF_THE_FIRST = 1_000_000_000, 100
+
+# The most seconds until the store is used up: some nine on a fast machine.
+SECONDS_OF_THE_STORE = 200
 
 # The most instructions a second of a cell with an empty store, which is paced to some 1,400,000, and is looked at for some
 # seconds. At full speed they are more than 100,000,000.
@@ -30,14 +33,17 @@ PACED, LOOKED_AT = 10_000_000, 2.0
 # The least that it has then, with the longest pauses: 20 slices a second.
 LEAST = 40_000
 
+# The seconds between two looks.
+PAUSE = 0.25
+
 LOOK = {"type": "request", "seq": 1, "command": "variables", "arguments": {"variablesReference": 1}}
 
 
 class Journal(unittest.TestCase):
     def setUp(self):
-        kernel = self.enterContext(Kernel())
-        self.shell = self.enterContext(kernel.peer("shell")).greet()
-        self.control = self.enterContext(kernel.peer("control")).greet()
+        self.kernel = self.enterContext(Kernel())
+        self.shell = self.enterContext(self.kernel.peer("shell")).greet()
+        self.control = self.enterContext(self.kernel.peer("control")).greet()
         self.asked = 0
 
     def ask(self, peer, kind, content):
@@ -54,18 +60,20 @@ class Journal(unittest.TestCase):
         rows = self.hear(self.control)["body"]["variables"]
         values = {row["name"]: int(row["value"].rstrip("H"), 16) for row in rows}
         rounds = 65_536 * (256 * values["D"] + values["E"]) + -(256 * values["B"] + values["C"]) % 65_536
-        return INSTRUCTIONS * rounds, time.monotonic()
+        worker = self.kernel.process.pid
+        return INSTRUCTIONS * rounds, time.monotonic() - busy.waited(worker, worker)
 
     def rate(self, seconds):
         """The cell's instructions a second for some time."""
-        first, began = self.done()
-        time.sleep(seconds)
-        last, ended = self.done()
+        first, began = last, ended = self.done()
+        while ended - began < seconds:
+            time.sleep(PAUSE)
+            last, ended = self.done()
         return (last - first) / (ended - began)
 
     def use_up(self):
         """Runs the cell until its rate falls. How many instructions it has done by then."""
-        began, lately = time.monotonic(), collections.deque(maxlen=5)
+        began, lately = self.done()[1], collections.deque(maxlen=5)
         while True:
             done, now = self.done()
             self.assertLess(now - began, SECONDS_OF_THE_FIRST if done < FIRST else SECONDS_OF_THE_STORE, f"{done} instructions")
@@ -73,7 +81,7 @@ class Journal(unittest.TestCase):
             # A busy machine may give the kernel no processor for less than a second.
             if len(lately) == lately.maxlen and done - lately[0][0] < PACED * (now - lately[0][1]):
                 return done
-            time.sleep(0.25)
+            time.sleep(PAUSE)
 
     def start(self):
         """Starts the cell, and waits until it has begun to count again."""

@@ -35,8 +35,8 @@ SIZES = (4, 6, 8, 12, 16, 24, 32, 48, 64)
 # The status of a program that the loader can't load.
 LOADER = 127
 
-# The most seconds until a kernel serves, or has ended.
-SECONDS = 10
+# The most seconds until a kernel serves, or has ended. It takes some milliseconds, and one that does neither never does.
+SECONDS = 60
 
 
 def program():

@@ -3,6 +3,7 @@ import collections
 import contextlib
 import time
 
+from browser import wait_until
 from crowds import PLACES, Kernel, SideBySide, side_by_side, wait_until_ready
 from zmtp import CHANNELS, SOCKET_TYPES, greeting, message, ready
 
@@ -14,7 +15,7 @@ SECONDS = 20
 SECONDS_WITHOUT_A_HANDSHAKE = 8
 
 # The seconds after which a handshake that isn't done is given up while nobody waits, and the least and the most that are seen.
-HANDSHAKE, LEAST, MOST = 10, 8, 14
+HANDSHAKE, LEAST, MOST = 10, 8, 30
 
 # Sockets on one channel that say nothing, four times as many as it has places. Each may hold a place for one second where
 # others wait, so that a newcomer waits for four; for ten, it was forty.
@@ -54,7 +55,6 @@ def established(connection):
 
 
 class Shut(SideBySide):
-    seconds = 120
 
     def starts_beside(self, channels, comes, seconds=SECONDS):
         """Jupyter's own client is soon ready beside sixteen strangers on each of these channels."""
@@ -203,7 +203,8 @@ class Shut(SideBySide):
         with Kernel() as kernel, contextlib.ExitStack() as frontends:
             for _ in range(PLACES):
                 frontends.enter_context(kernel.client()).wait_for_ready(timeout=SECONDS)
+            # libzmq connects in a thread of its own, on stdin maybe after the client is ready.
+            wait_until(lambda: len(established(kernel.connection)) == PLACES * (len(CHANNELS) - 1))
             before = established(kernel.connection)
-            self.assertEqual(len(before), PLACES * (len(CHANNELS) - 1))
             time.sleep(HONEST)
             self.assertEqual(established(kernel.connection), before)
