@@ -1,4 +1,5 @@
-// Small helpers: elements, numbers as texts, and work in sequence.
+// Small helpers: elements, numbers as texts, work in sequence, and what the browser keeps.
+import {addressOn} from "./server.js";
 
 export const byId = id => document.getElementById(id);
 
@@ -42,10 +43,14 @@ export function ask(text, yes) {
     });
 }
 
+// Below a hub all users' servers are one place to the browser, which keeps values by place. So their names begin with the path of
+// the user's server, unless the server is all that is there.
+const {pathname: BASE} = addressOn(""), OWNER = BASE === "/" ? "lab80 " : `lab80 ${BASE} `;
+
 /** A value that the browser keeps for this page, as JSON; nothing if it keeps none. */
 export function readSetting(name, storage = () => localStorage) {
     try {
-        return JSON.parse(storage().getItem("lab80 " + name));
+        return JSON.parse(storage().getItem(OWNER + name));
     } catch {
         return null;
     }
@@ -54,8 +59,8 @@ export function readSetting(name, storage = () => localStorage) {
 /** Keeps a value, or drops it if it is null. Returns whether the browser took it. */
 export function saveSetting(name, value, storage = () => localStorage) {
     try {
-        if (value === null) storage().removeItem("lab80 " + name);
-        else storage().setItem("lab80 " + name, JSON.stringify(value));
+        if (value === null) storage().removeItem(OWNER + name);
+        else storage().setItem(OWNER + name, JSON.stringify(value));
         return true;
     } catch {
         return false;
