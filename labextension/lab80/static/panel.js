@@ -1,0 +1,29 @@
+// The button that opens the front panel, in the toolbars of notebooks with this kernel.
+
+/** The kernel of a notebook, or null. */
+const kernelOf = panel => panel && panel.sessionContext.session && panel.sessionContext.session.kernel || null;
+
+/** Whether a notebook's kernel is one of this laboratory's. */
+export function isOn(lab, panel) {
+    const kernel = kernelOf(panel);
+    return kernel !== null && lab.parts.files.isOurs(kernel.name);
+}
+
+/** Opens the front panel of a notebook's board in a window of its own, one for each board. */
+export function open(lab, panel) {
+    const {name, id} = kernelOf(panel), address = lab.parts.files.addressOf(lab, name, "panel.html", {kernel: id});
+    window.open(address, `lab80-panel-${id}`, "width=1250,height=1000");
+}
+
+/** Adds the button to a notebook, and shows it as long as the kernel is one of this laboratory's. */
+export function addButton(lab, panel) {
+    const button = new lab.modules.apputils.ToolbarButton({
+        label: "8080 panel", tooltip: "Open the front panel and debugger of this board", onClick: () => open(lab, panel),
+    });
+    button.addClass("lab80-panel");
+    const show = () => button.setHidden(!isOn(lab, panel));
+    panel.sessionContext.kernelChanged.connect(show);
+    show();
+    const {toolbar} = panel;
+    if (!toolbar.insertAfter("cellType", "lab80-panel", button)) toolbar.insertItem(10, "lab80-panel", button);
+}
