@@ -174,7 +174,7 @@ class Class(unittest.TestCase):
     def test_the_one_address_of_a_class(self):
         with Browser(free_port(), 1250, 1130) as browser:
             self.log_in(browser, f"/hub/user-redirect/{BOARD}", "s03")
-            wait_until(lambda: where(browser) == f"/user/s03/{BOARD}", 60)
+            wait_until(lambda: where(browser) == f"/user/s03/{BOARD}")
             page = Page(browser)
             self.assertIn(NOTEBOOK, wait_until(lambda: page.text("#kernels")))
             page = Page(browser, f"{self.hub.base}/user/s03/{BOARD}?kernel={self.boards['s03']}")
@@ -187,12 +187,12 @@ class Class(unittest.TestCase):
         self.assertEqual(self.rows()["s04"][:3], ["runs", NOTEBOOK, "runs or waits"])
         with Browser(free_port(), 1000, 1100) as browser:
             self.log_in(browser, "/services/class/", "teacher")
-            wait_until(lambda: where(browser) == "/services/class/", 60)
+            wait_until(lambda: where(browser) == "/services/class/")
             keep_picture(browser, "hub-class", "body")
             browser.run("document.querySelector('a[href*=\"/user/s04/\"]').click()")
-            wait_until(lambda: "oauth" in where(browser), 60)
+            wait_until(lambda: "oauth" in where(browser))
             browser.run(AUTHORIZE)
-            wait_until(lambda: where(browser) == f"/user/s04/{BOARD}", 60)
+            wait_until(lambda: where(browser) == f"/user/s04/{BOARD}")
             page = Page(browser)
             page.is_in("running")
             page.click("#interrupt")

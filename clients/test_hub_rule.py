@@ -73,7 +73,7 @@ class Below(Pages):
     def says(self, sentence, link):
         """Waits until a page that can't begin says so."""
         try:
-            wait_until(lambda: self.browser.run(SAID) == f"{sentence}. {link}", 60)
+            wait_until(lambda: self.browser.run(SAID) == f"{sentence}. {link}")
         except TimeoutError:
             shown = self.browser.run("return document.body.innerText.slice(0, 300)")
             raise TimeoutError(f"it shows {shown!r}, and not {sentence!r}") from None
@@ -176,12 +176,12 @@ class Panel(Below):
             back = urllib.parse.quote(page.run("return location.pathname + location.search"), safe="")
             for status in (424, 503):
                 hub.answer(status)
-                page.waits(lambda: page.state().startswith("this server is stopped, next try in "), 60)
+                page.waits(lambda: page.state().startswith("this server is stopped, next try in "))
                 self.assertEqual(page.text("#way"), "Start the server")
                 self.assertEqual(page.run(HREF), "/hub/spawn/ann?next=" + back)
                 page.picture("panel-stopped", 1140, 200)
                 hub.answer(0)
-                page.waits(lambda: page.state() == "idle", 60)
+                page.waits(lambda: page.state() == "idle")
                 self.assertFalse(page.run(HAS_WAY))
 
 

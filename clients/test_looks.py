@@ -57,10 +57,13 @@ PLACES = """
 
 class Looks(Pages):
     def sent(self, page, seconds):
-        """The commands that the page sends in this time."""
+        """The commands that the page sends in this time. How long it really was is in `took`."""
         page.run("told.commands = []")
+        began = time.monotonic()
         time.sleep(seconds)
-        return page.run("return told.commands")
+        commands = page.run("return told.commands")
+        self.took = time.monotonic() - began
+        return commands
 
     def runs(self, text):
         """A page with a running program, when its first looks are over."""
@@ -101,7 +104,7 @@ class Looks(Pages):
         page = self.open()
         page.is_in("idle")
         page.run(WATCHED)
-        page.waits(lambda: self.sent(page, 1) == [], 60)
+        page.waits(lambda: self.sent(page, 1) == [])
         page.run(HELD)
         for _ in range(5):
             page.run("lookSoon(0)")
@@ -116,7 +119,7 @@ class Looks(Pages):
         page = self.runs(LAMPS)
         commands = self.sent(page, 8)
         # lamps and registers twice a second, flags and code less often
-        self.assertLessEqual(len(commands), 8 * 5 + 4, commands)
+        self.assertLessEqual(len(commands), self.took * 5 + 4, commands)
         seen = set()
         page.waits(lambda: seen.add((page.lamps(), page.registers()["H"])) or len(seen) > 5)
 
@@ -125,7 +128,7 @@ class Looks(Pages):
         page = self.runs(LAMPS)
         page.run("allowed.count = 0")
         commands = self.sent(page, 10)
-        self.assertLessEqual(len(commands), 10 * 3 + 6, commands)
+        self.assertLessEqual(len(commands), self.took * 3 + 6, commands)
         seen = set()
         page.waits(lambda: seen.add((page.lamps(), page.registers()["H"])) or len(seen) > 5)
 
@@ -133,7 +136,7 @@ class Looks(Pages):
         page = self.runs(STILL)
         time.sleep(3)
         commands = self.sent(page, 8)
-        self.assertLessEqual(len(commands), 8 * 2.5 + 4, commands)
+        self.assertLessEqual(len(commands), self.took * 2.5 + 4, commands)
 
     def test_a_program_that_waits_is_looked_at_when_something_is_posted(self):
         """And seldom besides. A button of another page is seen."""
@@ -141,7 +144,7 @@ class Looks(Pages):
         page.shows(page.state, "waits for a button")
         time.sleep(1)
         commands = self.sent(page, 8)
-        self.assertLessEqual(len(commands), 8, commands)
+        self.assertLessEqual(len(commands), self.took, commands)
         other = self.open_another()
         other.is_in("running")
         for count in ("01", "02"):
@@ -165,7 +168,7 @@ class Looks(Pages):
         page.browser.ask("POST", "/window/minimize")
         page.waits(lambda: page.run("return document.hidden"))
         # what was under way is answered
-        page.waits(lambda: self.sent(page, 1) == [], 60)
+        page.waits(lambda: self.sent(page, 1) == [])
         self.assertEqual(self.sent(page, 3), [])
         page.run("""
             document.addEventListener('visibilitychange', () => { told.atOnce = told.commands.length; });
@@ -186,4 +189,4 @@ class Looks(Pages):
         other.browser.close_window()
         self.assertEqual(page.run(PLACES), places)
         page.picture("panel-two", 1140, 420)
-        page.waits(lambda: page.text("#panels") == "", 60)
+        page.waits(lambda: page.text("#panels") == "")
