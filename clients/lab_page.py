@@ -11,6 +11,22 @@ CONTROL = "\ue009"
 FRONT = ".jp-NotebookPanel:not(.lm-mod-hidden) "
 DEBUGGER = "#jp-debugger-sidebar "
 
+# Notes when the page has sent something to a kernel, or received something, for the last time.
+NOTES = """{
+    const note = () => { window.lastMessage = performance.now(); };
+    window.WebSocket = class extends WebSocket {
+        constructor(...given) {
+            super(...given);
+            this.addEventListener('message', note);
+        }
+        send(...given) {
+            note();
+            super.send(...given);
+        }
+    };
+}"""
+QUIET = "return performance.now() - (window.lastMessage || 0)"
+
 IS_HERE = "return window.jupyterapp !== undefined && document.querySelector(arguments[0]) !== null"
 TEXTS = "return [...document.querySelectorAll(arguments[0])].map(each => each.innerText)"
 # The text below each cell.
@@ -44,6 +60,7 @@ class LabPage:
 
     def __init__(self, browser, lab):
         self.browser, self.lab = browser, lab
+        browser.devtools("Page.addScriptToEvaluateOnNewDocument", source=NOTES)
 
     def write(self, name, *texts):
         """Makes a notebook with these cells."""
@@ -143,6 +160,11 @@ class LabPage:
             wait_until(lambda: read() == wanted)
         except TimeoutError:
             raise TimeoutError(f"{read.__name__} shows {read()!r}, and not {wanted!r}") from None
+
+    def settles(self):
+        """Waits until the page has done all that it does by itself, up to a second after a cell has changed: no message has been
+        sent to a kernel or come from there for two seconds."""
+        wait_until(lambda: self.browser.run(QUIET) > 2_000)
 
     # actions
 

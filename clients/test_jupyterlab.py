@@ -3,9 +3,10 @@ import unittest
 
 import trixie
 from browser import ENTER, Browser, wait_until
+from jupyter_servers import TOKEN
 from lab80_client import ASKS, ENDLESS, HELLO
 from lab_page import FRONT, LabPage
-from panel_page import keep_picture
+from panel_page import Page, keep_picture
 from ports import free_port
 
 # A label without its colon.
@@ -28,7 +29,7 @@ LOOP = "        ORG 200H\nSTART:  MVI B,0\nLOOP:   INR B\n        JMP LOOP\n    
 
 def setUpModule():
     """One browser and one JupyterLab for all tests. Each page has a workspace of its own."""
-    global browser, page
+    global browser, lab, page
     trixie.needed()
     browser = unittest.enterModuleContext(Browser(free_port(), 1300, 850))
     lab = unittest.enterModuleContext(trixie.JupyterLab())
@@ -74,8 +75,10 @@ class Cells(unittest.TestCase):
 
 
 class Debugger(unittest.TestCase):
-    """A second after a cell has changed, as by a run, JupyterLab sends the breakpoints again that it showed then. A click in the
-    margin at that moment is lost. So breakpoints are set here before a cell runs."""
+    """A second after a cell has changed, as by a run, JupyterLab sends the breakpoints again that its margin shows then, and to
+    the kernel that it debugs then. A click in the margin at that moment is lost. So are the cell's breakpoints amid Terminate,
+    when the margin is empty; and where another notebook has come to the front, its kernel gets them. So breakpoints are set here
+    before a cell runs, and before the rest the tests wait until that second is over."""
 
     def stop(self, name, line, text, frames):
         """Opens a notebook with this cell, sets a breakpoint on a line of it and runs it until it stops there."""
@@ -105,6 +108,8 @@ class Debugger(unittest.TestCase):
         self.step("next", ("TWICE", 6), ("main", 3))
         page.shows(page.current, [["        ADD A"]] * 2)
         self.step("stepOut", ("main", 4))
+        # JupyterLab asks for the source when it has the frames, and marks the line even if the program has gone on by then
+        page.shows(page.current, [["        HLT"]] * 2)
         self.step("continue")
         page.shows(page.prompts, ["[1]:", "[ ]:"])
         page.shows(page.current, [[], []])
@@ -153,3 +158,94 @@ class Debugger(unittest.TestCase):
         self.assertEqual(page.outputs(), ["Interrupted:"])
         # JupyterLab shows the stop until then, since the kernel has told it of no other state
         self.step("terminate")
+
+    def test_a_program_is_terminated_and_run_again(self):
+        """For Terminate JupyterLab leaves the debugger and joins it again: the program runs to its end, and breakpoints stay."""
+        in_routine = [("TWICE", 5), ("main", 3)]
+        self.stop("terminated", 5, CALLS, in_routine)
+        page.settles()
+        self.step("terminate")
+        page.shows(page.prompts, ["[1]:"])
+        page.shows(page.breakpoints, [5])
+        page.shows(page.marked, [[5]])
+        page.settles()
+        self.assertTrue(page.is_debugging())
+        page.run_cell()
+        page.shows(page.frames, in_routine)
+        self.step("continue")
+        page.shows(page.prompts, ["[2]:"])
+
+    def test_a_kernel_is_restarted_at_a_stop(self):
+        """Then the debugger is off and breakpoints are gone, as with every kernel."""
+        in_routine = [("TWICE", 5), ("main", 3)]
+        self.stop("restarted", 5, CALLS, in_routine)
+        page.settles()
+        page.restart()
+        page.shows(page.frames, [])
+        page.shows(page.is_debugging, False)
+        # JupyterLab asks the new kernel for its state, and the bug can be pressed before it has the answer
+        page.settles()
+        self.assertEqual((page.is_debugging(), page.breakpoints(), page.marked()), (False, [], [[]]))
+        page.run_cell()
+        page.shows(page.prompts, ["[1]:"])
+        page.debug()
+        page.settles()
+        page.toggle(5)
+        page.run_cell()
+        page.shows(page.frames, in_routine)
+
+    def test_other_pages_are_at_the_same_stop(self):
+        """JupyterLab's own, loaded anew, and the front panel."""
+        in_routine = [("TWICE", 6), ("main", 3)]
+        self.stop("beside", 6, CALLS, in_routine)
+        page.reload()
+        page.shows(page.is_debugging, True)
+        page.shows(page.frames, in_routine)
+        page.shows(lambda: page.current()[1], ["        ADD A"])
+        kernel, notebook = page.kernel(), browser.window()
+        browser.new_window()
+        panel = Page(browser, lab.page("lab80", "panel.html", kernel=kernel, token=TOKEN))
+        try:
+            panel.is_in("stopped")
+            self.assertEqual((panel.line(), len(panel.frames())), (6, 2))
+            panel.command("stepOut")
+            panel.stops("step", 4)
+            browser.use(notebook)
+            page.shows(page.frames, [("main", 4)])
+            self.step("continue")
+            panel.is_in("idle")
+        finally:
+            browser.use(panel.window)
+            browser.close_window()
+            browser.use(notebook)
+
+    def test_two_notebooks_are_debugged_at_once(self):
+        in_routine = [("TWICE", 6), ("main", 3)]
+        page.write("second", LOOP)
+        self.stop("first", 6, CALLS, in_routine)
+        page.settles()
+        page.open_beside("second")
+        # JupyterLab asks the new kernel, and then it returns to the first notebook's stop, until the second one's bug is pressed;
+        # if that is before it has returned, it takes the first one's stop for the second one's
+        page.settles()
+        page.shows(page.frames, in_routine)
+        page.debug()
+        page.shows(page.title, "SECOND.IPYNB")
+        page.shows(page.frames, [])
+        page.settles()
+        page.toggle(4)
+        page.run_cell()
+        page.shows(page.frames, [("main", 4)])
+        page.shows(page.source, LOOP)
+        self.step("next", ("main", 3))
+        page.settles()
+        page.bring_forward("first")
+        page.shows(page.frames, in_routine)
+        page.shows(page.source, CALLS)
+        page.shows(page.breakpoints, [6])
+        self.step("continue")
+        page.shows(page.prompts, ["[1]:"])
+        page.settles()
+        page.bring_forward("second")
+        page.shows(page.frames, [("main", 3)])
+        self.assertEqual(page.prompts(), ["[*]:"])

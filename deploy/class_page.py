@@ -92,7 +92,7 @@ class ClassPage(HubOAuthenticated, RequestHandler):
         count = sum(bool(known.get(name)) for name in names)
         self.set_header("Cache-Control", "no-store")
         self.set_header("Content-Security-Policy", "default-src 'none'; style-src 'unsafe-inline'; frame-ancestors 'none'")
-        self.finish(PAGE.format(again=AGAIN, sum=f"{len(names)} students, {count} with a server.", rows="\n".join(rows)))
+        self.finish(PAGE.format(again=AGAIN, sum=f"{len(names)} student{'s' * (len(names) != 1)}, {count} with a server.", rows="\n".join(rows)))
 
 
 HANDLERS = [(PREFIX, ClassPage), (PREFIX + "oauth_callback", HubOAuthCallbackHandler)]
