@@ -1,12 +1,14 @@
-// What no clause of i80_dis, cli_io, cli_run and cli_engines says: the lines of all opcodes, by a table
-// that was made without them; that engines succeed where there is memory, on readers and writers that give
-// and take little at a time, are interrupted, or fail; and how faults are displayed. Nothing is here but
-// tests. Whole inputs with what they print, and that listings are assembled again, are tables of the
-// clients' test_engines.
+// The tests of the machine's crates: the rows with their arithmetic, the step, and the devices.
+// They stand here, above the crates that they test, so that each of those is proved once: a crate is
+// proved again with each test that stands in it. Everything is tested through public functions.
 #![tactic(auto)]
 
 #[cfg(test)]
+mod asm_rows;
+#[cfg(test)]
 mod commands;
+#[cfg(test)]
+mod devices;
 #[cfg(test)]
 mod engines;
 #[cfg(test)]
@@ -19,5 +21,21 @@ mod listing_tests;
 mod names;
 #[cfg(test)]
 mod opcode_lines;
+#[cfg(test)]
+mod operand_tests;
+#[cfg(test)]
+mod plain;
+#[cfg(test)]
+mod rows;
+#[cfg(test)]
+mod session_tests;
+#[cfg(test)]
+mod step;
+#[cfg(test)]
+mod text_tests;
+#[cfg(test)]
+mod token_tests;
+#[cfg(test)]
+mod vocabulary_tests;
 #[cfg(test)]
 mod words;

@@ -1,5 +1,5 @@
 //! Requests about breakpoints: what each is read as.
-use crate::checks::{made, parts};
+use crate::dap_editor_checks::{made, parts};
 use crate::rows::{expect_request, expect_row, expect_rows};
 use dap_messages::numbering::FROM_1;
 use std::alloc::AllocGlobal;

@@ -1,12 +1,20 @@
-// The tests of dap_editor and dap_arguments: requests as editors write them, and what each is read as. They
-// stand here, above the crates that they test, so that these are proved once: a crate is proved again with
-// each test that stands in it. Everything is tested through public functions.
+// The tests of dap_talk and dap_answers: debug requests that are read or refused, the JSON of their answers,
+// and the paths of cells. They stand here, above the crates that they test, so that these are proved once: a
+// crate is proved again with each test that stands in it.
 #![tactic(auto)]
 
 #[cfg(test)]
+mod answers;
+#[cfg(test)]
 mod breakpoints;
 #[cfg(test)]
+mod cells;
+#[cfg(test)]
 mod checks;
+#[cfg(test)]
+mod dap_editor_checks;
+#[cfg(test)]
+mod dap_editor_requests;
 #[cfg(test)]
 mod launches;
 #[cfg(test)]

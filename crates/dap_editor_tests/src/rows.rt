@@ -1,5 +1,5 @@
 //! Rows of requests, each with what it is read as.
-use crate::checks::{expect_made, made, parts};
+use crate::dap_editor_checks::{expect_made, made, parts};
 use crate::told::{Part, put, told_of};
 use dap_editor::reading::read_editor_request;
 use dap_editor::request::EditorRequest;

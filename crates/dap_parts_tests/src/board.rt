@@ -1,5 +1,5 @@
 //! The board that all rows are asked of. One function owns it, and the others look at it.
-use crate::logs::{expect_lengths, expect_names, expect_texts};
+use crate::dap_parts_logs::{expect_lengths, expect_names, expect_texts};
 use crate::valued::{expect_limits, expect_values};
 use lab_core::event::Event;
 use lab_core::lab::Lab;

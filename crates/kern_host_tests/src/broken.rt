@@ -2,7 +2,7 @@
 
 use crate::bytes::{DEALER, GREETING, HEARS, PUB, ROUTER, RUNS, SUB};
 use crate::checks::expect_at;
-use crate::gates::Plan;
+use crate::kern_host_gates::Plan;
 use crate::guests::{AT_ONCE, end_of, guests_of, serve, was_sent, written};
 use crate::replay::{Ask, Posts, Replay, Script};
 use crate::signals::Signals;

@@ -4,7 +4,7 @@ ghost use Rattle.kern_net.specs.Gates.{no_polls};
 ghost use Rattle.kern_host.specs.Guests.{IsComing};
 
 use crate::bytes::{GREETING, PUB, ROUTER};
-use crate::gates::{InGate, OutGate, Plan, WorkGate};
+use crate::kern_host_gates::{InGate, OutGate, Plan, WorkGate};
 use crate::replay::{Replay, Script, sent_to};
 use crate::signals::{Counts, Signals};
 use crate::streams::{HeldInlet, ToldOutlet};

@@ -3,7 +3,7 @@ ghost use Rattle.std.specs.Prelude.{Some};
 ghost use Rattle.kern_host.specs.Guests.{AreOf, IsComing};
 
 use crate::bytes::{DEALER, RUNS};
-use crate::gates::{InGate, OutGate, Plan};
+use crate::kern_host_gates::{InGate, OutGate, Plan};
 use crate::guests::{AT_ONCE, MemoryGuest, guest_of, is_handshake_and};
 use crate::replay::Script;
 use crate::signals::Signals;

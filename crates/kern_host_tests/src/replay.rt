@@ -1,7 +1,7 @@
 //! Making the calls of a journal again on a new kernel, one by one.
 
 use crate::checks::expect_at;
-use crate::gates::MOMENT;
+use crate::kern_host_gates::MOMENT;
 use crate::signals::Counts;
 use base_text::boxed::Boxed;
 use base_text::sequence::{Bytes, Frames};

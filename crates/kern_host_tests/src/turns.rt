@@ -8,7 +8,7 @@ use crate::bytes::{
     SESSION, SUB, after, count_of,
 };
 use crate::checks::expect_at;
-use crate::gates::Plan;
+use crate::kern_host_gates::Plan;
 use crate::guests::{
     AT_ONCE, MemoryGuest, Served, end_of, guests_of, is_served, serve, was_sent, written,
 };

@@ -3,7 +3,7 @@
 
 use crate::bytes::{ASKS, DEALER, GREETING, HEARS, IDLE, RUNS, SHUTS, STRANGE, SUB, count_of};
 use crate::checks::expect_at;
-use crate::gates::Plan;
+use crate::kern_host_gates::Plan;
 use crate::guests::{AT_ONCE, MemoryGuest, end_of, guests_of, is_served, serve, was_sent, written};
 use crate::replay::{Ask, Posts, Replay, Script};
 use crate::signals::{Counts, Signals};

@@ -10,4 +10,30 @@ mod board;
 #[cfg(test)]
 mod bursts;
 #[cfg(test)]
+mod call;
+#[cfg(test)]
+mod changes;
+#[cfg(test)]
+mod debug;
+#[cfg(test)]
+mod digits;
+#[cfg(test)]
+mod frames;
+#[cfg(test)]
+mod loads;
+#[cfg(test)]
+mod marks;
+#[cfg(test)]
+mod moments;
+#[cfg(test)]
+mod plain;
+#[cfg(test)]
+mod plays;
+#[cfg(test)]
+mod pokes;
+#[cfg(test)]
 mod size;
+#[cfg(test)]
+mod told;
+#[cfg(test)]
+mod views;

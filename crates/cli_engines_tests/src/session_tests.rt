@@ -1,6 +1,6 @@
 //! Sessions of cells, each over the symbols that the one before left, and all that a cell gives.
 
-use crate::rows::{Asked, compare};
+use crate::asm_rows::{Asked, compare};
 use asm_build::built::{Built, Row};
 use asm_build::cell::build;
 use asm_build::symbols::{SymbolKind, Symbols};

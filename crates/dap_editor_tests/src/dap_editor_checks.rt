@@ -2,9 +2,9 @@
 use std::alloc::AllocError;
 use std::process::Abort;
 
-/// The two parts of a row, with ` -> ` between them.
+/// The two parts of a row, with ` ->` between them.
 pub fn parts(row: &str) -> (&str, &str) {
-    row.split_once(" -> ").unwrap_or((row, ""))
+    row.split_once(" ->").unwrap_or((row, ""))
 }
 
 /// What was made, for which there must be memory.

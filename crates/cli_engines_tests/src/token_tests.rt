@@ -1,6 +1,6 @@
 //! Lines whose tokens and faults were worked out by hand from the manual.
 
-use crate::rows::{Asked, compare};
+use crate::asm_rows::{Asked, compare};
 use asm_expr::expression::Binary;
 use asm_lex::laws::{fault_ends_tokens, tokens_are_spelled};
 use asm_lex::lexer::tokens;

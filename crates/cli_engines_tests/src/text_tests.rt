@@ -1,6 +1,6 @@
 //! The language held against what its manual and its users expect.
 
-use crate::rows::{Asked, compare};
+use crate::asm_rows::{Asked, compare};
 use asm_text::statements::statements;
 use std::alloc::{AllocError, Global};
 

@@ -1,6 +1,6 @@
 //! Operands and words whose answers were worked out by hand. What expressions are worth is tested by the
 //! clients.
-use crate::rows::{Asked, compare};
+use crate::asm_rows::{Asked, compare};
 use crate::token_tests::{keyword_name, put_bytes};
 use asm_expr::expression::{Binary, Expr, Unary};
 use asm_lex::commas::{next_operand, pair, register, single, text};

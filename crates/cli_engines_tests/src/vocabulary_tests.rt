@@ -1,6 +1,6 @@
 //! The words of the language, and how its faults are printed.
 
-use crate::rows::{Asked, compare};
+use crate::asm_rows::{Asked, compare};
 use crate::token_tests::keyword_name;
 use asm_syntax::fault::{AsmFault, FaultKind, LineFault};
 use asm_syntax::keyword::keyword_of;
