@@ -9,15 +9,15 @@ use Rattle.std.proofs.lemmas.Bool.{false≢true}
 use Rattle.asm_expr.specs.Value.{value_of}
 use Rattle.asm_expr.specs.declared.evaluation.ExprFault.{ExprFault}
 use Rattle.asm_expr.specs.declared.evaluation.ExprFault.TheVariants as expr
-use Rattle.i80_rows.specs.declared.instruction.Vector.{Vector}
-use Rattle.i80_rows.specs.declared.instruction.Instr.TheVariants.{Rst}
+use Rattle.i80_base.specs.declared.instruction.Vector.{Vector}
+use Rattle.i80_base.specs.declared.instruction.Instr.TheVariants.{Rst}
 use Rattle.i80_rows.specs.Encoding.{encoding_of}
 use Rattle.asm_syntax.specs.declared.fault.FaultKind.{FaultKind}
 use Rattle.asm_syntax.specs.declared.fault.FaultKind.TheVariants as fault
-use Rattle.i80_rows.specs.declared.instruction.ByteOperation.{ByteOperation}
-use Rattle.i80_rows.specs.declared.instruction.ByteOperation.TheVariants as byte_op
-use Rattle.i80_rows.specs.declared.instruction.WordOperation.{WordOperation}
-use Rattle.i80_rows.specs.declared.instruction.WordOperation.TheVariants as word_op
+use Rattle.i80_base.specs.declared.instruction.ByteOperation.{ByteOperation}
+use Rattle.i80_base.specs.declared.instruction.ByteOperation.TheVariants as byte_op
+use Rattle.i80_base.specs.declared.instruction.WordOperation.{WordOperation}
+use Rattle.i80_base.specs.declared.instruction.WordOperation.TheVariants as word_op
 use Rattle.asm_syntax.specs.declared.statement.Operand.{Operand}
 use Rattle.asm_syntax.specs.declared.statement.Instruction.{Instruction}
 use Rattle.asm_syntax.specs.declared.statement.Instruction.TheVariants as instruction
@@ -25,7 +25,7 @@ use Rattle.asm_syntax.specs.declared.statement.Data.{Data}
 use Rattle.asm_syntax.specs.declared.statement.Data.TheVariants as datum
 use Rattle.asm_syntax.specs.declared.statement.Action.{Action}
 use Rattle.asm_syntax.specs.declared.statement.Action.TheVariants as action
-use Rattle.i80_rows.specs.Instructions.{byte_instruction, word_instruction}
+use Rattle.i80_base.specs.Instructions.{byte_instruction, word_instruction}
 use Rattle.asm_syntax.specs.Outcome.{Fault, ◌>>=◌}
 use Rattle.asm_syntax.proofs.FirstFaults.{fault_is}
 use Rattle.asm_encode.specs.Bytes.{all_bytes, instruction_bytes, datum_bytes, word_bytes, bytes_of, start_of}

@@ -4,7 +4,7 @@ ghost use Rattle.std.specs.Prelude.{IfOk, OnOk};
 ghost use Rattle.asm_build.specs.Images.{has};
 ghost use Rattle.asm_build.specs.Meaning.{at_address, overlaps};
 
-use i80_rows::memory::MEMORY_SIZE;
+use i80_base::memory::MEMORY_SIZE;
 use std::alloc::{AllocError, Global};
 use std::marker::Model;
 

@@ -30,7 +30,7 @@ use asm_syntax::fault::{AsmFault, FaultKind, LineFault};
 use asm_syntax::statement::{
     Action, Data, Instruction, Label, MOST_LINES, Operand, Operation, Statement,
 };
-use i80_rows::memory::MEMORY_SIZE;
+use i80_base::memory::MEMORY_SIZE;
 use std::alloc::{AllocError, Global};
 
 /// What is known after the lines so far.

@@ -1,8 +1,8 @@
 -- The bytes of an action, where names have these values and `$` is here.
 use Rattle.std.specs.Prelude.{ℕ, ◌/◌, ◌%◌, List, [], ◌∷◌, ◌++◌, Option, Some, Result, Ok}
-use Rattle.i80_rows.specs.declared.instruction.Instr.TheVariants.{Rst}
+use Rattle.i80_base.specs.declared.instruction.Instr.TheVariants.{Rst}
 use Rattle.i80_rows.specs.Encoding.{encoding_of}
-use Rattle.i80_rows.specs.Instructions.{byte_instruction, word_instruction}
+use Rattle.i80_base.specs.Instructions.{byte_instruction, word_instruction}
 use Rattle.asm_syntax.specs.declared.statement.Operand.{Operand}
 use Rattle.asm_syntax.specs.declared.statement.Instruction.{Instruction}
 use Rattle.asm_syntax.specs.declared.statement.Instruction.TheVariants as instruction

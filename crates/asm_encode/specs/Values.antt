@@ -4,8 +4,8 @@ use Rattle.std.specs.Prelude.{nat_lt, nat_le}
 use Rattle.asm_expr.specs.Value.{value_of}
 use Rattle.asm_expr.specs.declared.evaluation.ExprFault.{ExprFault}
 use Rattle.asm_expr.specs.declared.evaluation.ExprFault.TheVariants as expr
-use Rattle.i80_rows.specs.declared.instruction.Vector.{Vector}
-use Rattle.i80_rows.specs.declared.instruction.Vector.TheVariants.{V0, V1, V2, V3, V4, V5, V6, V7}
+use Rattle.i80_base.specs.declared.instruction.Vector.{Vector}
+use Rattle.i80_base.specs.declared.instruction.Vector.TheVariants.{V0, V1, V2, V3, V4, V5, V6, V7}
 use Rattle.asm_syntax.specs.declared.fault.FaultKind.{FaultKind}
 use Rattle.asm_syntax.specs.declared.fault.FaultKind.TheVariants as fault
 use Rattle.asm_syntax.specs.declared.statement.Operand.{Operand}

@@ -9,8 +9,8 @@ use crate::operand::{byte, number, restart};
 use asm_expr::env::Env;
 use asm_syntax::fault::LineFault;
 use asm_syntax::statement::{Action, Data, Instruction, Operand};
+use i80_base::instruction::Instr;
 use i80_rows::encoding::encode;
-use i80_rows::instruction::Instr;
 use std::alloc::{AllocError, Global};
 
 fn encoding(alloc: Global, instr: Instr) -> Result<Vec<u8>, AllocError>

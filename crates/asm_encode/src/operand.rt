@@ -8,7 +8,7 @@ use asm_expr::env::Env;
 use asm_expr::evaluation::{ExprFault, value};
 use asm_syntax::fault::{FaultKind, LineFault};
 use asm_syntax::statement::Operand;
-use i80_rows::instruction::Vector;
+use i80_base::instruction::Vector;
 
 /// The value of an operand. A name without a value is the fault `missing`, a division by zero `Divisor`.
 pub fn number_or<E: Env>(

@@ -8,7 +8,7 @@ use crate::fault::{HexFault, HexFaultKind, LineFault};
 use crate::lines::{cut_line, trim};
 use crate::reading::HexFile;
 use crate::record::{Record, bytes_of_line, record_of};
-use i80_rows::memory::MEMORY_SIZE;
+use i80_base::memory::MEMORY_SIZE;
 use std::alloc::{AllocError, Global};
 use std::marker::Model;
 

@@ -2,7 +2,7 @@
 ghost use Rattle.std.specs.Prelude.{◌≡◌, length, IfOk};
 ghost use Rattle.asm_hex.specs.Cells.{cells_of};
 
-use i80_rows::memory::MEMORY_SIZE;
+use i80_base::memory::MEMORY_SIZE;
 use std::alloc::{AllocError, Global};
 
 /// For each of the 65,536 addresses the byte there, if there is one.

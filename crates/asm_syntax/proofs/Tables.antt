@@ -6,7 +6,7 @@ use Rattle.std.specs.Map.{lookup}
 use Rattle.std.specs.Str.{bytes_eq}
 use Rattle.std.proofs.lemmas.Option.{none-some}
 use Rattle.std.proofs.lemmas.Slice.Eq.{bytes_eq-Decides}
-use Rattle.i80_rows.proofs.Tables.{head_same, tail_same}
+use Rattle.i80_base.proofs.Tables.{head_same, tail_same}
 use Rattle.asm_syntax.specs.declared.keyword.Keyword.{Keyword}
 use Rattle.asm_syntax.specs.declared.keyword.TheConstants.{KEYWORDS}
 use Rattle.asm_syntax.specs.Words.{Entry, reserved_words, keyword_of}

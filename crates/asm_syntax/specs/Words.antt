@@ -4,10 +4,10 @@
 use Rattle.std.specs.Prelude.{ℕ, List, [], ◌∷◌, ◌++◌, Option, codes}
 use Rattle.std.specs.Map.{lookup}
 use Rattle.std.specs.Str.{bytes_eq}
-use Rattle.i80_rows.specs.declared.instruction.Cond.TheVariants as cond
-use Rattle.i80_rows.specs.declared.instruction.Instr.TheVariants as instr
-use Rattle.i80_rows.specs.declared.instruction.Operation.TheVariants as alu
-use Rattle.i80_rows.specs.declared.instruction.Rotation.TheVariants as rotation
+use Rattle.i80_base.specs.declared.instruction.Cond.TheVariants as cond
+use Rattle.i80_base.specs.declared.instruction.Instr.TheVariants as instr
+use Rattle.i80_base.specs.declared.instruction.Operation.TheVariants as alu
+use Rattle.i80_base.specs.declared.instruction.Rotation.TheVariants as rotation
 use Rattle.asm_expr.specs.declared.expression.Binary.TheVariants as infix_op
 use Rattle.asm_expr.specs.declared.expression.Unary.TheVariants as prefix_op
 use Rattle.asm_syntax.specs.declared.keyword.Directive.TheVariants as directive
@@ -19,8 +19,8 @@ use Rattle.asm_syntax.specs.declared.keyword.PairOperation.TheVariants as pair_o
 use Rattle.asm_syntax.specs.declared.keyword.RegisterOperation.TheVariants as register_op
 use Rattle.asm_syntax.specs.declared.keyword.RegisterWord.TheVariants as register
 use Rattle.asm_syntax.specs.declared.keyword.StackOperation.TheVariants as stack_op
-use Rattle.i80_rows.specs.declared.instruction.ByteOperation.TheVariants as byte_op
-use Rattle.i80_rows.specs.declared.instruction.WordOperation.TheVariants as word_op
+use Rattle.i80_base.specs.declared.instruction.ByteOperation.TheVariants as byte_op
+use Rattle.i80_base.specs.declared.instruction.WordOperation.TheVariants as word_op
 
 -- a word in upper case, and what it means
 abbrev pub Entry : Type 0

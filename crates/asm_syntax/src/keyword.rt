@@ -6,7 +6,7 @@ ghost use Rattle.std.specs.Map.{lookup};
 ghost use Rattle.asm_syntax.specs.Words.{keyword_of};
 
 use asm_expr::expression::{Binary, Unary};
-use i80_rows::instruction::{ByteOperation, Cond, Instr, Operation, Rotation, WordOperation};
+use i80_base::instruction::{ByteOperation, Cond, Instr, Operation, Rotation, WordOperation};
 
 /// An instruction but for its register.
 #[derive(Clone, Copy)]

@@ -4,7 +4,7 @@ ghost use Rattle.std.specs.Prelude.{◌≡◌, ◌≤◌, ◌<◌, ◌++◌, ◌
 use asm_expr::expression::Expr;
 use asm_expr::name::Name;
 use base_text::sequence::Sequence;
-use i80_rows::instruction::{ByteOperation, Instr, WordOperation};
+use i80_base::instruction::{ByteOperation, Instr, WordOperation};
 use std::alloc::{AllocError, Global};
 use std::marker::Model;
 

@@ -2,18 +2,18 @@
 use Rattle.std.proofs.Common.{◌≡◌, ℕ, inl, inr, List, [], ◌∷◌, refl, sym, ap, ◌∙◌}
 use Rattle.std.proofs.Common.{Option, Some, None, Result, Ok, Err}
 use Rattle.std.specs.Prelude.{option_and_then}
-use Rattle.i80_rows.specs.declared.instruction.Instr.{Instr}
-use Rattle.i80_rows.specs.declared.instruction.Reg.{Reg}
+use Rattle.i80_base.specs.declared.instruction.Instr.{Instr}
+use Rattle.i80_base.specs.declared.instruction.Reg.{Reg}
 use Rattle.asm_expr.specs.Tree.{Tree}
 use Rattle.asm_syntax.specs.declared.fault.FaultKind.TheVariants as kind
 use Rattle.asm_syntax.specs.declared.keyword.Mnemonic.{Mnemonic}
 use Rattle.asm_syntax.specs.declared.keyword.Mnemonic.TheVariants as mnemonic
 use Rattle.asm_syntax.specs.declared.keyword.RegisterWord.{RegisterWord}
-use Rattle.i80_rows.specs.declared.instruction.ByteOperation.TheVariants.{Mvi}
+use Rattle.i80_base.specs.declared.instruction.ByteOperation.TheVariants.{Mvi}
 use Rattle.asm_syntax.specs.declared.statement.Instruction.{Instruction}
 use Rattle.asm_syntax.specs.declared.statement.Instruction.TheVariants as instruction
 use Rattle.asm_syntax.specs.declared.statement.Operand.{Operand}
-use Rattle.i80_rows.specs.declared.instruction.WordOperation.TheVariants.{Lxi}
+use Rattle.i80_base.specs.declared.instruction.WordOperation.TheVariants.{Lxi}
 use Rattle.asm_syntax.specs.Lexemes.{Piece}
 use Rattle.asm_syntax.specs.Outcome.{Fault, ◌>>=◌}
 use Rattle.asm_lex.specs.Climb.{expression, first_column}

@@ -1,15 +1,15 @@
 -- What a line says that is a word and plain operands: words of registers, and numbers.
 use Rattle.std.proofs.Common.{◌≡◌, ℕ, List, [], ◌∷◌, Some, None, Ok, refl}
 use Rattle.asm_expr.specs.Tree as tree
-use Rattle.i80_rows.specs.declared.instruction.Instr.{Instr}
-use Rattle.i80_rows.specs.declared.instruction.IndexPair.{IndexPair}
-use Rattle.i80_rows.specs.declared.instruction.IndexPair.TheVariants as index
-use Rattle.i80_rows.specs.declared.instruction.Reg.{Reg}
-use Rattle.i80_rows.specs.declared.instruction.Reg.TheVariants as reg
-use Rattle.i80_rows.specs.declared.instruction.Pair.{Pair}
-use Rattle.i80_rows.specs.declared.instruction.Pair.TheVariants as pair
-use Rattle.i80_rows.specs.declared.instruction.StackPair.{StackPair}
-use Rattle.i80_rows.specs.declared.instruction.StackPair.TheVariants as stack
+use Rattle.i80_base.specs.declared.instruction.Instr.{Instr}
+use Rattle.i80_base.specs.declared.instruction.IndexPair.{IndexPair}
+use Rattle.i80_base.specs.declared.instruction.IndexPair.TheVariants as index
+use Rattle.i80_base.specs.declared.instruction.Reg.{Reg}
+use Rattle.i80_base.specs.declared.instruction.Reg.TheVariants as reg
+use Rattle.i80_base.specs.declared.instruction.Pair.{Pair}
+use Rattle.i80_base.specs.declared.instruction.Pair.TheVariants as pair
+use Rattle.i80_base.specs.declared.instruction.StackPair.{StackPair}
+use Rattle.i80_base.specs.declared.instruction.StackPair.TheVariants as stack
 use Rattle.i80_rows.proofs.Each.{each_reg, each_pair, each_index, each_stack}
 use Rattle.asm_syntax.specs.declared.keyword.Keyword.{Keyword as Word}
 use Rattle.asm_syntax.specs.declared.keyword.Keyword.TheVariants as keyword
@@ -18,10 +18,10 @@ use Rattle.asm_syntax.specs.declared.keyword.Mnemonic.TheVariants as mnemonic
 use Rattle.asm_syntax.specs.declared.keyword.Directive.TheVariants as directive
 use Rattle.asm_syntax.specs.declared.keyword.RegisterWord.{RegisterWord}
 use Rattle.asm_syntax.specs.declared.keyword.RegisterWord.TheVariants as word
-use Rattle.i80_rows.specs.declared.instruction.ByteOperation.{ByteOperation}
-use Rattle.i80_rows.specs.declared.instruction.ByteOperation.TheVariants.{Mvi}
-use Rattle.i80_rows.specs.declared.instruction.WordOperation.{WordOperation}
-use Rattle.i80_rows.specs.declared.instruction.WordOperation.TheVariants.{Lxi}
+use Rattle.i80_base.specs.declared.instruction.ByteOperation.{ByteOperation}
+use Rattle.i80_base.specs.declared.instruction.ByteOperation.TheVariants.{Mvi}
+use Rattle.i80_base.specs.declared.instruction.WordOperation.{WordOperation}
+use Rattle.i80_base.specs.declared.instruction.WordOperation.TheVariants.{Lxi}
 use Rattle.asm_syntax.specs.declared.statement.Operand.{Operand}
 use Rattle.asm_syntax.specs.declared.statement.Data.TheVariants as datum
 use Rattle.asm_syntax.specs.declared.statement.Instruction.TheVariants as instruction

@@ -3,13 +3,13 @@
 use Rattle.std.specs.Prelude.{ℕ, List, [], ◌∷◌, Bool, Option, Some, None, Result, Ok, Err, if◌then◌else◌}
 use Rattle.std.specs.Prelude.{◌||◌, is_some, option_and_then}
 use Rattle.std.specs.List.{list_all}
-use Rattle.i80_rows.specs.declared.instruction.Instr.{Instr}
-use Rattle.i80_rows.specs.declared.instruction.Instr.TheVariants as instr
-use Rattle.i80_rows.specs.declared.instruction.Reg.{Reg}
-use Rattle.i80_rows.specs.declared.instruction.Register.{Register}
-use Rattle.i80_rows.specs.declared.instruction.Pair.{Pair}
-use Rattle.i80_rows.specs.declared.instruction.IndexPair.{IndexPair}
-use Rattle.i80_rows.specs.declared.instruction.StackPair.{StackPair}
+use Rattle.i80_base.specs.declared.instruction.Instr.{Instr}
+use Rattle.i80_base.specs.declared.instruction.Instr.TheVariants as instr
+use Rattle.i80_base.specs.declared.instruction.Reg.{Reg}
+use Rattle.i80_base.specs.declared.instruction.Register.{Register}
+use Rattle.i80_base.specs.declared.instruction.Pair.{Pair}
+use Rattle.i80_base.specs.declared.instruction.IndexPair.{IndexPair}
+use Rattle.i80_base.specs.declared.instruction.StackPair.{StackPair}
 use Rattle.asm_syntax.specs.declared.fault.FaultKind.TheVariants.{Operands}
 use Rattle.asm_syntax.specs.declared.keyword.RegisterWord.{RegisterWord}
 use Rattle.asm_syntax.specs.declared.keyword.RegisterOperation.{RegisterOperation}
@@ -26,8 +26,8 @@ use Rattle.asm_syntax.specs.declared.keyword.Directive.{Directive}
 use Rattle.asm_syntax.specs.declared.keyword.Directive.TheVariants as directive
 use Rattle.asm_syntax.specs.declared.statement.Data.{Data}
 use Rattle.asm_syntax.specs.declared.statement.Data.TheVariants as data_of_bytes
-use Rattle.i80_rows.specs.declared.instruction.ByteOperation.TheVariants.{Mvi}
-use Rattle.i80_rows.specs.declared.instruction.WordOperation.TheVariants.{Lxi}
+use Rattle.i80_base.specs.declared.instruction.ByteOperation.TheVariants.{Mvi}
+use Rattle.i80_base.specs.declared.instruction.WordOperation.TheVariants.{Lxi}
 use Rattle.asm_syntax.specs.declared.statement.Instruction.{Instruction}
 use Rattle.asm_syntax.specs.declared.statement.Instruction.TheVariants as instruction
 use Rattle.asm_syntax.specs.declared.statement.Operand.{Operand}

@@ -1,11 +1,11 @@
 -- What a line says, as a relation of its fields and its statement (8080/8085 Assembly Language
 -- Programming Manual, chapters 2 to 4). How deep its expressions are isn't asked here.
 use Rattle.std.specs.Prelude.{◌≡◌, ◌⊎◌, ℕ, List, [], ◌∷◌, Bool, false, Option, Some, None, is_some}
-use Rattle.i80_rows.specs.declared.instruction.Instr.{Instr}
-use Rattle.i80_rows.specs.declared.instruction.IndexPair.{IndexPair}
-use Rattle.i80_rows.specs.declared.instruction.Pair.{Pair}
-use Rattle.i80_rows.specs.declared.instruction.Reg.{Reg}
-use Rattle.i80_rows.specs.declared.instruction.StackPair.{StackPair}
+use Rattle.i80_base.specs.declared.instruction.Instr.{Instr}
+use Rattle.i80_base.specs.declared.instruction.IndexPair.{IndexPair}
+use Rattle.i80_base.specs.declared.instruction.Pair.{Pair}
+use Rattle.i80_base.specs.declared.instruction.Reg.{Reg}
+use Rattle.i80_base.specs.declared.instruction.StackPair.{StackPair}
 use Rattle.asm_syntax.specs.declared.keyword.Directive.{Directive}
 use Rattle.asm_syntax.specs.declared.keyword.Directive.TheVariants as directive
 use Rattle.asm_syntax.specs.declared.keyword.Keyword.TheVariants as keyword
@@ -14,7 +14,7 @@ use Rattle.asm_syntax.specs.declared.keyword.Mnemonic.TheVariants as mnemonic
 use Rattle.asm_syntax.specs.declared.keyword.RegisterWord.{RegisterWord}
 use Rattle.asm_syntax.specs.declared.statement.Action.{Action}
 use Rattle.asm_syntax.specs.declared.statement.Action.TheVariants as action
-use Rattle.i80_rows.specs.declared.instruction.ByteOperation.TheVariants.{Mvi}
+use Rattle.i80_base.specs.declared.instruction.ByteOperation.TheVariants.{Mvi}
 use Rattle.asm_syntax.specs.declared.statement.Data.{Data}
 use Rattle.asm_syntax.specs.declared.statement.Data.TheVariants as datum
 use Rattle.asm_syntax.specs.declared.statement.Instruction.{Instruction}
@@ -23,7 +23,7 @@ use Rattle.asm_syntax.specs.declared.statement.Label.{Label}
 use Rattle.asm_syntax.specs.declared.statement.Operand.{Operand}
 use Rattle.asm_syntax.specs.declared.statement.Operation.{Operation}
 use Rattle.asm_syntax.specs.declared.statement.Statement.{Statement}
-use Rattle.i80_rows.specs.declared.instruction.WordOperation.TheVariants.{Lxi}
+use Rattle.i80_base.specs.declared.instruction.WordOperation.TheVariants.{Lxi}
 use Rattle.asm_syntax.specs.Lexemes.{Lexeme, Piece, Name, Keyword, Text}
 use Rattle.asm_lex.specs.Spelling.{Spells}
 use Rattle.asm_lex.specs.Climb.{first_column}

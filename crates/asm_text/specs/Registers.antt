@@ -1,16 +1,16 @@
 -- Which registers, pairs and codes an operand's word names (8080/8085 Assembly Language Programming
 -- Manual, chapter 3).
 use Rattle.std.specs.Prelude.{Option, Some, None}
-use Rattle.i80_rows.specs.declared.instruction.Reg.{Reg}
-use Rattle.i80_rows.specs.declared.instruction.Reg.TheVariants as reg
-use Rattle.i80_rows.specs.declared.instruction.Register.{Register}
-use Rattle.i80_rows.specs.declared.instruction.Register.TheVariants as register
-use Rattle.i80_rows.specs.declared.instruction.Pair.{Pair}
-use Rattle.i80_rows.specs.declared.instruction.Pair.TheVariants as pair
-use Rattle.i80_rows.specs.declared.instruction.IndexPair.{IndexPair}
-use Rattle.i80_rows.specs.declared.instruction.IndexPair.TheVariants as index
-use Rattle.i80_rows.specs.declared.instruction.StackPair.{StackPair}
-use Rattle.i80_rows.specs.declared.instruction.StackPair.TheVariants as stack
+use Rattle.i80_base.specs.declared.instruction.Reg.{Reg}
+use Rattle.i80_base.specs.declared.instruction.Reg.TheVariants as reg
+use Rattle.i80_base.specs.declared.instruction.Register.{Register}
+use Rattle.i80_base.specs.declared.instruction.Register.TheVariants as register
+use Rattle.i80_base.specs.declared.instruction.Pair.{Pair}
+use Rattle.i80_base.specs.declared.instruction.Pair.TheVariants as pair
+use Rattle.i80_base.specs.declared.instruction.IndexPair.{IndexPair}
+use Rattle.i80_base.specs.declared.instruction.IndexPair.TheVariants as index
+use Rattle.i80_base.specs.declared.instruction.StackPair.{StackPair}
+use Rattle.i80_base.specs.declared.instruction.StackPair.TheVariants as stack
 use Rattle.asm_syntax.specs.declared.keyword.RegisterWord.{RegisterWord}
 use Rattle.asm_syntax.specs.declared.keyword.RegisterWord.TheVariants as word
 

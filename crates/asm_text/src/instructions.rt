@@ -15,7 +15,7 @@ use asm_syntax::keyword::{
 };
 use asm_syntax::statement::Instruction;
 use asm_syntax::token::Placed;
-use i80_rows::instruction::{
+use i80_base::instruction::{
     ByteOperation, IndexPair, Instr, Pair, Reg, Register, StackPair, WordOperation,
 };
 use std::alloc::Global;

@@ -10,7 +10,7 @@ use asm_lex::commas::register;
 use asm_syntax::fault::{FaultKind, LineFault};
 use asm_syntax::keyword::RegisterWord;
 use asm_syntax::token::Placed;
-use i80_rows::instruction::{IndexPair, Pair, Reg, Register, StackPair};
+use i80_base::instruction::{IndexPair, Pair, Reg, Register, StackPair};
 
 /// What a word can name for an operation that takes certain registers or pairs.
 pub trait Named: Copy {

@@ -1,6 +1,6 @@
 -- What a slot for one operation holds, and its room.
 use Rattle.std.specs.Prelude.{ℕ, List, [], ◌∷◌, Option, Some, None}
-use Rattle.i80_exec.specs.declared.ports.PortOperation.{PortOperation}
+use Rattle.i80_base.specs.declared.ports.PortOperation.{PortOperation}
 
 abbrev pub held_list : Option PortOperation → List PortOperation
 held_list None = []

@@ -2,8 +2,8 @@
 use crate::assembler::assemble_often;
 use crate::failure::fail;
 use anyhow::Result;
+use i80_base::memory::MEMORY_SIZE;
 use i80_dis::listing::listing;
-use i80_rows::memory::MEMORY_SIZE;
 use std::alloc::{AllocError, Global};
 
 // Bytes of all values, mixed by a linear congruence.

@@ -1,7 +1,7 @@
 //! Ports with nothing behind them, and room for one operation.
 ghost use Rattle.std.specs.Prelude.{◌≡◌, None};
 
-use i80_exec::ports::{PortOperation, Ports};
+use i80_base::ports::{PortOperation, Ports};
 
 /// The operation of the last step, if it had one.
 #[derive(Drop)]

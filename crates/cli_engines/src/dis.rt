@@ -9,8 +9,8 @@ use base_streams::ports::{Inlet, Outlet};
 use cli_io::reading::read_hex;
 use cli_io::report::{Report, deliver, hex_refusal, refusal};
 use cli_io::status::Status;
+use i80_base::memory::MEMORY_SIZE;
 use i80_dis::listing::listing;
-use i80_rows::memory::MEMORY_SIZE;
 use std::alloc::{AllocError, Global};
 
 /// Reads bytes as hexadecimal text and writes their listing, the first of which is at this address.

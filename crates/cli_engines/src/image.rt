@@ -7,8 +7,8 @@ ghost use Rattle.cli_engines.specs.Image.{lines_from, image_text};
 
 use base_text::hexadecimal::push_word;
 use cli_run::printing::push_field;
+use i80_base::memory::MEMORY_SIZE;
 use i80_exec::machine::Machine;
-use i80_rows::memory::MEMORY_SIZE;
 use std::alloc::{AllocError, Global};
 
 /// The most bytes on a line.

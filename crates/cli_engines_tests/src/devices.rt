@@ -1,6 +1,6 @@
 //! The devices over a short past.
+use i80_base::ports::{PortOperation, Ports};
 use i80_devs::devices::{Devices, PressFault};
-use i80_exec::ports::{PortOperation, Ports};
 use std::alloc::{AllocError, Global};
 
 /// What a table does with the devices, or finds in them.

@@ -11,7 +11,7 @@ use asm_lex::strings::string_bytes;
 use asm_lex::words::misplaced_word;
 use asm_syntax::keyword::{Keyword, Mnemonic, RegisterWord};
 use asm_syntax::token::{Placed, Token, Word};
-use i80_rows::instruction::Instr;
+use i80_base::instruction::Instr;
 use std::alloc::{AllocError, Global};
 
 // One character for each token: a digit for a number, a capital letter for an operator word, `x` for a

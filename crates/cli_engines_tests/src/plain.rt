@@ -4,9 +4,9 @@
 //! numbers. Of the machine's code only the flag byte is used, to compare it.
 ghost use Rattle.std.specs.Prelude.{◌≤◌};
 
-use i80_exec::ports::Ports;
+use i80_base::board::Board;
+use i80_base::ports::Ports;
 use i80_exec::registers::{Interrupts, Registers, Stepped};
-use i80_rows::board::Board;
 use std::alloc::{AllocError, Global};
 
 /// Where A stands among the registers.

@@ -1,12 +1,12 @@
 //! Values that the 8080 User's Manual and real processors give.
-use i80_rows::arithmetic::{
+use i80_base::arithmetic::{
     AluResult, alu_add, alu_and, alu_or, alu_sub, alu_xor, daa, dcr, inr, rotate,
 };
-use i80_rows::board::Board;
+use i80_base::board::Board;
+use i80_base::flags::Flags;
+use i80_base::instruction::{Cond, DecodeFault, Instr, Operation, Reg, Register, Rotation, Vector};
 use i80_rows::decoding::{decode, decode_on};
 use i80_rows::encoding::encode;
-use i80_rows::flags::Flags;
-use i80_rows::instruction::{Cond, DecodeFault, Instr, Operation, Reg, Register, Rotation, Vector};
 use std::process::Abort;
 
 const NO_FLAGS: u8 = 0x02;
@@ -92,11 +92,22 @@ const DECODED: [(&[u8], Decoded); 9] = [
     (&[0xcf], Ok((Instr::Rst(Vector::V1), 1))),
 ];
 
+// Whether what is read is this. No two instructions have one encoding.
+fn is_same(read: Decoded, want: Decoded) -> bool {
+    match (read, want) {
+        (Ok((instr, size)), Ok((other, length))) => {
+            size == length && encode(instr).as_slice() == encode(other).as_slice()
+        }
+        (Err(fault), Err(other)) => fault == other,
+        _ => false,
+    }
+}
+
 // Whether bytes are read so on a strict board, and so on one with aliases.
 fn are_read(bytes: &[u8], strict: Decoded, aliased: Decoded) -> bool {
-    decode(bytes) == strict
-        && decode_on(bytes, Board::Strict) == strict
-        && decode_on(bytes, Board::Aliases) == aliased
+    is_same(decode(bytes), strict)
+        && is_same(decode_on(bytes, Board::Strict), strict)
+        && is_same(decode_on(bytes, Board::Aliases), aliased)
 }
 
 #[test]
@@ -127,7 +138,7 @@ const ALIASES: [(u8, Instr, u8); 12] = [
 // Whether an opcode, of which a board with aliases makes this, is undefined on a strict one.
 fn is_alias(opcode: u8, instr: Instr, size: u8) -> bool {
     are_read(&[opcode, 0x34, 0x12], UNDEFINED, Ok((instr, size)))
-        && decode(&[opcode, 0, 0]) == UNDEFINED
+        && is_same(decode(&[opcode, 0, 0]), UNDEFINED)
 }
 
 #[test]
@@ -136,7 +147,7 @@ fn a_board_with_aliases_defines_the_undefined_opcodes(rt: HostRuntime) {
         expect_row(&rt, is_alias(*opcode, *instr, *size), row);
     }
     let cut_off = decode_on(&[0xcb, 0x34], Board::Aliases);
-    assert!(rt; cut_off == Err(DecodeFault::Short { needed: 3 }));
+    assert!(rt; is_same(cut_off, Err(DecodeFault::Short { needed: 3 })));
 }
 
 // Whether what an opcode with two bytes after it means is encoded as they are; nothing where it means

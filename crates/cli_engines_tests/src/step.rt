@@ -2,11 +2,11 @@
 ghost use Rattle.std.specs.Prelude.{◌≤◌, ◌-◌, IfOk, vec_len, vec_capacity};
 
 use crate::plain::Plain;
+use i80_base::board::Board;
+use i80_base::flags::Flags;
+use i80_base::ports::{PortOperation, Ports};
 use i80_exec::machine::Machine;
-use i80_exec::ports::{PortOperation, Ports};
 use i80_exec::registers::{Interrupts, Registers, Stepped};
-use i80_rows::board::Board;
-use i80_rows::flags::Flags;
 use std::alloc::{AllocError, Global};
 use std::process::Abort;
 

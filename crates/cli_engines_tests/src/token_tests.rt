@@ -7,7 +7,7 @@ use asm_lex::lexer::tokens;
 use asm_syntax::fault::{FaultKind, LineFault};
 use asm_syntax::keyword::{Directive, Keyword, Mnemonic, RegisterWord};
 use asm_syntax::token::{Placed, Token};
-use i80_rows::instruction::Instr;
+use i80_base::instruction::Instr;
 use std::alloc::{AllocError, Global};
 
 pub(crate) fn put_bytes(bytes: &[u8], told: &mut String) -> Result<(), AllocError> {

@@ -5,7 +5,7 @@ ghost use Rattle.cli_io.specs.HexState.{kept_more};
 
 use crate::intake::{Intake, IntakeFault};
 use base_text::hexadecimal::digit_value;
-use i80_rows::memory::MEMORY_SIZE;
+use i80_base::memory::MEMORY_SIZE;
 use std::alloc::{AllocError, AllocFailed, Global};
 use std::marker::Model;
 use thiserror::Error;

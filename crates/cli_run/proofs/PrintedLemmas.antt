@@ -1,6 +1,6 @@
 -- A text to which a line's parts are added one by one has the line at its end.
 use Rattle.std.proofs.Common.{◌≡◌, ℕ, List, ◌∷◌, [], ◌++◌, append_assoc, codes}
-use Rattle.i80_rows.specs.FlagValues.{flag_byte}
+use Rattle.i80_base.specs.FlagValues.{flag_byte}
 use Rattle.i80_exec.specs.declared.registers.Registers.{Registers}
 use Rattle.base_text.specs.Hexadecimal.{upper_word}
 use Rattle.cli_run.specs.Printed.{field, register_line}

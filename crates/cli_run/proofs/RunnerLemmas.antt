@@ -1,6 +1,6 @@
 -- A runner after one instruction represents the board after one instruction.
 use Rattle.std.proofs.Common.{◌≡◌, List, ◌++◌, map, Option, Some, None, ap, sym, ◌∙◌, append-nil}
-use Rattle.i80_exec.specs.declared.ports.PortOperation.{PortOperation}
+use Rattle.i80_base.specs.declared.ports.PortOperation.{PortOperation}
 use Rattle.i80_exec.specs.State.{MachineState}
 use Rattle.i80_exec.specs.Effect.{Outcome}
 use Rattle.i80_exec.specs.Step.{instruction, operation_list, state_after}

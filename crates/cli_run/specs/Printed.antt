@@ -2,7 +2,7 @@
 use Rattle.std.specs.Prelude.{ℕ, List, ◌++◌, codes}
 use Rattle.base_text.specs.Hexadecimal.{upper_byte, upper_word}
 use Rattle.cli_io.specs.Report.{line}
-use Rattle.i80_rows.specs.FlagValues.{flag_byte}
+use Rattle.i80_base.specs.FlagValues.{flag_byte}
 use Rattle.i80_exec.specs.declared.registers.Registers.{Registers}
 
 -- a name and a byte

@@ -1,6 +1,6 @@
 //! Registers and endings as text: hexadecimal numbers are upper case and of fixed width.
 ghost use Rattle.std.specs.Prelude.{◌≡◌, ◌++◌, OnOk, string_bytes, codes};
-ghost use Rattle.i80_rows.specs.FlagValues.{flag_byte};
+ghost use Rattle.i80_base.specs.FlagValues.{flag_byte};
 ghost use Rattle.base_text.specs.Hexadecimal.{upper_byte, upper_word};
 ghost use Rattle.cli_io.specs.Report.{line};
 ghost use Rattle.cli_run.specs.Printed.{field, register_line};

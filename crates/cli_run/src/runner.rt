@@ -6,11 +6,11 @@ ghost use Rattle.i80_exec.specs.State.{power_on};
 
 use crate::ending::Ending;
 use crate::printing::{push_ending, push_registers};
+use i80_base::instruction::DecodeFault;
 use i80_devs::devices::Devices;
 use i80_exec::machine::Machine;
 use i80_exec::registers::{Interrupts, Registers, Stepped};
 use i80_rows::decoding::decode_on;
-use i80_rows::instruction::DecodeFault;
 use std::alloc::{AllocError, Global};
 use std::marker::Model;
 

@@ -3,8 +3,8 @@
 use Rattle.std.specs.Prelude.{ℕ, ◌+◌, ◌≤◌, length, Result, Ok, Err, OnErr, ◌≡◌, Bool, true, false}
 use Rattle.base_text.specs.Bytes.{Text}
 use Rattle.base_text.specs.Latin.{latin_bytes}
-use Rattle.i80_rows.specs.declared.board.Board.{Board as BoardOption}
-use Rattle.i80_rows.specs.declared.board.Board.TheVariants.{Strict, Aliases}
+use Rattle.i80_base.specs.declared.board.Board.{Board as BoardOption}
+use Rattle.i80_base.specs.declared.board.Board.TheVariants.{Strict, Aliases}
 use Rattle.i80_exec.specs.State.{MachineState, modulo_65536}
 use Rattle.lab_views.specs.declared.view.View.TheVariants as view
 use Rattle.lab_views.specs.Code.{after_instructions}

@@ -13,7 +13,7 @@ use base_text::text::Text;
 use dap_answers::answer::Body;
 use dap_answers::cell::cell_path;
 use dap_talk::command::DapCommand;
-use i80_rows::board::Board;
+use i80_base::board::Board;
 use lab_core::event::{Event, StepRequest};
 use lab_core::fault::EventFault;
 use lab_core::lab::Lab;

@@ -1,6 +1,6 @@
 -- Names on a board.
 use Rattle.std.proofs.Common.{◌≡◌, ℕ, List, refl}
-use Rattle.i80_rows.specs.declared.instruction.Reg.TheVariants as reg
+use Rattle.i80_base.specs.declared.instruction.Reg.TheVariants as reg
 use Rattle.i80_exec.specs.declared.registers.Registers.{Registers}
 use Rattle.i80_exec.specs.State.{get}
 use Rattle.asm_expr.specs.Tree.{Tree}

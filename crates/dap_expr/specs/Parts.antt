@@ -4,7 +4,7 @@ use Rattle.std.specs.Str.{bytes_eq}
 use Rattle.std.specs.Int.{from_bool}
 use Rattle.asm_syntax.specs.declared.keyword.RegisterWord.{RegisterWord}
 use Rattle.asm_syntax.specs.declared.keyword.RegisterWord.TheVariants as word
-use Rattle.i80_rows.specs.FlagValues.{flag_byte}
+use Rattle.i80_base.specs.FlagValues.{flag_byte}
 use Rattle.i80_exec.specs.declared.registers.Registers.{Registers}
 use Rattle.dap_expr.specs.declared.part.Part.{Part}
 use Rattle.dap_expr.specs.declared.part.Part.TheVariants as part

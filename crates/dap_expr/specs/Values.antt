@@ -2,7 +2,7 @@
 use Rattle.std.specs.Prelude.{◌≡◌, ℕ, ◌+◌, List, [], ◌∷◌, Option, Result, Ok, slice_set, replicate, nat_lt}
 use Rattle.std.specs.Prelude.{Bool, true, false, not, ◌&&◌, ◌==◌, if◌then◌else◌}
 use Rattle.std.specs.Int.{from_bool}
-use Rattle.i80_rows.specs.declared.instruction.Reg.TheVariants as reg
+use Rattle.i80_base.specs.declared.instruction.Reg.TheVariants as reg
 use Rattle.i80_exec.specs.State.{MachineState, byte_at, word_at, get}
 use Rattle.asm_expr.specs.Tree.{Tree}
 use Rattle.asm_expr.specs.Value.{value_of}

@@ -9,7 +9,7 @@ use asm_hex::fault::HexFault;
 use asm_hex::memory::cells;
 use asm_hex::reading::read_hex;
 use dap_file::kind::ImageKind;
-use i80_rows::memory::MEMORY_SIZE;
+use i80_base::memory::MEMORY_SIZE;
 use std::alloc::{AllocError, Global};
 
 /// The address of the first byte of a program for CP/M.

@@ -9,8 +9,8 @@ use crate::image::{image_of, start_in};
 use asm_syntax::statement::MOST_LINES;
 use base_text::text::Text;
 use dap_file::kind::ImageKind;
+use i80_base::memory::MEMORY_SIZE;
 use i80_listings::listings::listings;
-use i80_rows::memory::MEMORY_SIZE;
 use std::alloc::Global;
 
 /// Where a program's bytes are and where it starts, as far as its file doesn't say it.

@@ -8,13 +8,13 @@ use Rattle.std.proofs.Math.Seq.{take-append_seam}
 use Rattle.std.proofs.lemmas.Bool.{and_parts, cases_lt, eqb-true}
 use Rattle.std.proofs.lemmas.List.{get_or_past, length-append}
 use Rattle.base_text.specs.Bytes.{Bytes, Text}
-use Rattle.i80_rows.specs.declared.instruction.Instr.{Instr}
-use Rattle.i80_rows.specs.declared.instruction.Instr.TheVariants.{Lxi, Shld, Lhld, Sta, Lda, Jmp, JumpIf}
-use Rattle.i80_rows.specs.declared.instruction.Instr.TheVariants.{Call}
-use Rattle.i80_rows.specs.declared.instruction.Instr.TheVariants.{CallIf}
-use Rattle.i80_rows.specs.declared.instruction.Pair.{Pair}
-use Rattle.i80_rows.specs.Rows.{Row, Undefined, Alone, Byte, Word, row, rows, read_row}
-use Rattle.i80_rows.proofs.Tables.{agree}
+use Rattle.i80_base.specs.declared.instruction.Instr.{Instr}
+use Rattle.i80_base.specs.declared.instruction.Instr.TheVariants.{Lxi, Shld, Lhld, Sta, Lda, Jmp, JumpIf}
+use Rattle.i80_base.specs.declared.instruction.Instr.TheVariants.{Call}
+use Rattle.i80_base.specs.declared.instruction.Instr.TheVariants.{CallIf}
+use Rattle.i80_base.specs.declared.instruction.Pair.{Pair}
+use Rattle.i80_base.specs.Rows.{Row, Undefined, Alone, Byte, Word, row, rows, read_row}
+use Rattle.i80_base.proofs.Tables.{agree}
 use Rattle.asm_syntax.specs.Numerals.{word_text}
 use Rattle.asm_build.specs.declared.symbols.Symbol.{Symbol}
 use Rattle.asm_build.specs.declared.symbols.SymbolKind.{SymbolKind}

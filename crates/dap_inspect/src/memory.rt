@@ -5,7 +5,7 @@ ghost use Rattle.lab_core.specs.Labs.{RepresentsBoard};
 ghost use Rattle.dap_inspect.specs.Memory as memory;
 
 use base_text::sequence::Bytes;
-use i80_rows::memory::MEMORY_SIZE;
+use i80_base::memory::MEMORY_SIZE;
 use lab_core::lab::Lab;
 use std::alloc::{AllocError, Global};
 

@@ -2,7 +2,7 @@
 use Rattle.std.proofs.Common.{◌≡◌, ◌∙◌, ℕ, List, [], ◌∷◌, ◌++◌, Bool, true, false, nat_lt, ap, refl, sym}
 use Rattle.std.proofs.Common.{subst, Option}
 use Rattle.std.proofs.Common.{append_assoc, if◌then◌else◌}
-use Rattle.i80_exec.specs.declared.ports.PortOperation.{PortOperation}
+use Rattle.i80_base.specs.declared.ports.PortOperation.{PortOperation}
 use Rattle.lab_shown.specs.declared.place.PlaceChange.{PlaceChange}
 use Rattle.lab_core.specs.declared.answer.SliceOutcome.{SliceOutcome}
 use Rattle.lab_core.specs.Board.{Board}

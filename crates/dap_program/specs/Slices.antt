@@ -7,8 +7,8 @@ use Rattle.lab_core.specs.declared.run_state.RunState.TheVariants.{Running}
 use Rattle.std.specs.List.{filter_map, list_all, list_any}
 use Rattle.base_text.specs.Bytes.{Bytes}
 use Rattle.base_text.specs.Hexadecimal.{upper_byte, upper_word}
-use Rattle.i80_exec.specs.declared.ports.PortOperation.{PortOperation}
-use Rattle.i80_exec.specs.declared.ports.PortOperation.TheVariants.{In, Out}
+use Rattle.i80_base.specs.declared.ports.PortOperation.{PortOperation}
+use Rattle.i80_base.specs.declared.ports.PortOperation.TheVariants.{In, Out}
 use Rattle.lab_core.specs.declared.answer.SliceOutcome.{SliceOutcome}
 use Rattle.lab_core.specs.declared.answer.SliceOutcome.TheVariants as outcome
 use Rattle.lab_shown.specs.declared.place.PlaceChange.{PlaceChange}

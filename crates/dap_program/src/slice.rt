@@ -27,8 +27,8 @@ use dap_messages::message::{BreakpointStop, EditorEvent, EditorStop, Message, Ou
 use dap_points::kind::kind_of;
 use dap_slice::conditions::ConditionalBreakpoints;
 use dap_slice::slice::SliceResult;
+use i80_base::ports::PortOperation;
 use i80_devs::console::{is_line_requested, print_all};
-use i80_exec::ports::PortOperation;
 use lab_core::answer::{End, SliceOutcome, Stop};
 use lab_core::lab::Lab;
 use lab_core::run_slice::STEPS;

@@ -6,7 +6,7 @@ use Rattle.std.specs.List.{range_with_len}
 use Rattle.std.specs.Fmt.{decimal}
 use Rattle.base_text.specs.Bytes.{Text}
 use Rattle.base_text.specs.Hexadecimal.{upper_word}
-use Rattle.i80_rows.specs.FlagValues.{flag_byte}
+use Rattle.i80_base.specs.FlagValues.{flag_byte}
 use Rattle.i80_exec.specs.State.{MachineState, byte_at}
 use Rattle.i80_exec.specs.declared.registers.Registers.{Registers}
 use Rattle.i80_devs.specs.Past.{PanelState}

@@ -11,7 +11,7 @@ use base_text::sequence::Sequence;
 use base_text::text::Text;
 use dap_inspect::format::word_shown;
 use dap_messages::message::ValueFormat;
-use i80_rows::memory::MEMORY_SIZE;
+use i80_base::memory::MEMORY_SIZE;
 use lab_core::lab::Lab;
 use std::alloc::{AllocError, Global};
 

@@ -1,7 +1,7 @@
 //! Slices of at most so many steps.
 ghost use Rattle.std.specs.Prelude.{◌≡◌, ◌≢◌, ◌≤◌, ℕ, List, length, false, Ok, IfOk, OnErr};
 ghost use Rattle.std.specs.Prelude.{vec_capacity};
-ghost use Rattle.i80_exec.specs.declared.ports.PortOperation.{PortOperation};
+ghost use Rattle.i80_base.specs.declared.ports.PortOperation.{PortOperation};
 ghost use Rattle.lab_core.specs.declared.answer.SliceOutcome.{SliceOutcome};
 ghost use Rattle.lab_core.specs.declared.run_state.RunState.TheVariants.{Running};
 ghost use Rattle.lab_core.specs.Board.{Board};

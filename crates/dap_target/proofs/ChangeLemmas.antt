@@ -5,8 +5,8 @@ use Rattle.std.specs.Prelude.{◌==◌, if◌then◌else◌}
 use Rattle.std.specs.Int.{from_bool}
 use Rattle.std.proofs.lemmas.List.{length-set, get_or-set_same, get_or-set_other}
 use Rattle.std.proofs.lemmas.Bool.Decides.{nat_tests}
-use Rattle.i80_rows.specs.FlagValues.{flag_byte, flags_of}
-use Rattle.i80_rows.specs.declared.instruction.Pair.TheVariants as pair
+use Rattle.i80_base.specs.FlagValues.{flag_byte, flags_of}
+use Rattle.i80_base.specs.declared.instruction.Pair.TheVariants as pair
 use Rattle.i80_exec.specs.declared.registers.Registers.{Registers}
 use Rattle.i80_exec.specs.State.{MachineState, byte_at, with_byte, word_at, stored_word, get_pair}
 use Rattle.asm_syntax.specs.declared.keyword.RegisterWord.{RegisterWord}

@@ -6,7 +6,7 @@ use Rattle.std.specs.Prelude.{if◌then◌else◌}
 use Rattle.std.proofs.lemmas.List.{length-set, length-take, get_or-set_same, take_more, take_all}
 use Rattle.std.proofs.lemmas.Option.{slice_get_past, slice_get-get_or, get_or_from_slice_get}
 use Rattle.std.proofs.lemmas.Bool.Decides.{nat_tests}
-use Rattle.i80_rows.specs.declared.instruction.Reg.TheVariants as reg
+use Rattle.i80_base.specs.declared.instruction.Reg.TheVariants as reg
 use Rattle.i80_exec.specs.State.{get}
 use Rattle.asm_expr.specs.Tree as tree
 use Rattle.asm_expr.specs.Tree.{Tree}

@@ -1,8 +1,8 @@
 -- Changes of places by hand.
 use Rattle.std.specs.Prelude.{ℕ, ◌*◌, ◌+◌, ◌/◌, ◌%◌, ◌==◌, [], ◌∷◌, Bool, true, not, ◌||◌, Result, Ok}
 use Rattle.std.specs.Prelude.{Err, nat_lt, nat_le, if◌then◌else◌}
-use Rattle.i80_rows.specs.FlagValues.{FlagValues, flag_byte, flags_of}
-use Rattle.i80_rows.specs.declared.instruction.Pair.TheVariants as pair
+use Rattle.i80_base.specs.FlagValues.{FlagValues, flag_byte, flags_of}
+use Rattle.i80_base.specs.declared.instruction.Pair.TheVariants as pair
 use Rattle.i80_exec.specs.declared.registers.Registers.{Registers}
 use Rattle.i80_exec.specs.State.{MachineState, get_pair, with_byte, stored_word, with_regs}
 use Rattle.asm_syntax.specs.declared.keyword.RegisterWord.{RegisterWord}

@@ -1,7 +1,7 @@
 -- The places that expressions name, and what they hold.
 use Rattle.std.specs.Prelude.{ℕ, ◌+◌, ◌==◌, List, [], ◌∷◌, length, take, Option, Some, None, Result, Ok, Err}
 use Rattle.std.specs.Prelude.{nat_lt, option_map, option_and_then, slice_get, if◌then◌else◌}
-use Rattle.i80_rows.specs.declared.instruction.Reg.TheVariants as reg
+use Rattle.i80_base.specs.declared.instruction.Reg.TheVariants as reg
 use Rattle.i80_exec.specs.State.{MachineState, byte_at, word_at, get}
 use Rattle.asm_expr.specs.Tree as tree
 use Rattle.asm_expr.specs.Tree.{Tree}

@@ -12,8 +12,8 @@ use asm_syntax::keyword::RegisterWord;
 use base_text::sequence::Bytes;
 use dap_expr::part::{Part, hl};
 use dap_history::input::Input;
+use i80_base::flags::Flags;
 use i80_exec::registers::Registers;
-use i80_rows::flags::Flags;
 use lab_core::lab::Lab;
 use std::alloc::{AllocError, Global};
 

@@ -1,7 +1,7 @@
 -- What a port operation says of the console.
 use Rattle.std.specs.Prelude.{ℕ, ◌==◌, Bool, false, Option, Some, None, if◌then◌else◌}
-use Rattle.i80_exec.specs.declared.ports.PortOperation.{PortOperation}
-use Rattle.i80_exec.specs.declared.ports.PortOperation.TheVariants.{In, Out}
+use Rattle.i80_base.specs.declared.ports.PortOperation.{PortOperation}
+use Rattle.i80_base.specs.declared.ports.PortOperation.TheVariants.{In, Out}
 
 -- the byte that is written there
 abbrev pub written_to_console : PortOperation → Option ℕ

@@ -16,8 +16,8 @@ use Rattle.std.specs.Prelude.{
 }
 use Rattle.std.specs.Option.{unwrap_or}
 use Rattle.std.specs.List.{fold, filter_map, last_or}
-use Rattle.i80_exec.specs.declared.ports.PortOperation.{PortOperation}
-use Rattle.i80_exec.specs.declared.ports.PortOperation.TheVariants.{In, Out}
+use Rattle.i80_base.specs.declared.ports.PortOperation.{PortOperation}
+use Rattle.i80_base.specs.declared.ports.PortOperation.TheVariants.{In, Out}
 
 -- an operation: by the program, at the console, at the panel, or by the board that accepts a request
 pub data Operation : Type 0 where

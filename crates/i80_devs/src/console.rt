@@ -3,7 +3,7 @@ ghost use Rattle.std.specs.Prelude.{◌≡◌, ◌<◌, ◌≤◌, ◌+◌, ◌+
 ghost use Rattle.std.specs.List.{filter_map, list_any};
 ghost use Rattle.i80_devs.specs.Console.{written_to_console, wants_line};
 
-use i80_exec::ports::PortOperation;
+use i80_base::ports::PortOperation;
 
 fn print(text: &mut Vec<u8>, operation: &PortOperation)
     requires { vec_len text.old < vec_capacity text.old }

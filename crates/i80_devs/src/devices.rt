@@ -3,7 +3,7 @@ ghost use Rattle.std.specs.Prelude.{◌≡◌, ◌+◌, ◌≤◌, ◌++◌, ◌
 
 use crate::panel::Panel;
 use crate::traffic::Traffic;
-use i80_exec::ports::{PortOperation, Ports};
+use i80_base::ports::{PortOperation, Ports};
 use std::alloc::{AllocError, Global};
 use std::marker::Model;
 use std::mem;

@@ -2,7 +2,7 @@
 use Rattle.std.proofs.Common.{◌≡◌, ℕ, ◌-◌, ◌<◌, ◌≤◌, inl, inr, List, [], ◌∷◌, ◌++◌}
 use Rattle.std.proofs.Common.{length, map, get_or, refl, sym, ap, subst, ◌∙◌, arith}
 use Rattle.std.proofs.lemmas.List.{length-append}
-use Rattle.i80_rows.specs.declared.instruction.Instr.{Instr}
+use Rattle.i80_base.specs.declared.instruction.Instr.{Instr}
 use Rattle.i80_rows.specs.Encoding.{Encodes, encoding_of}
 use Rattle.i80_rows.proofs.OnlyEncoding.{encoding_is}
 use Rattle.asm_syntax.specs.declared.statement.Statement.{Statement}

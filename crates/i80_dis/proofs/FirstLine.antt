@@ -2,10 +2,10 @@
 use Rattle.std.proofs.Common.{◌≡◌, ℕ, ◌<◌, ◌≤◌, List, [], ◌∷◌, ◌++◌, length, drop, take, map}
 use Rattle.std.proofs.Common.{Result, Ok, Err, refl, sym, ap, ◌∙◌, arith}
 use Rattle.std.proofs.lemmas.List.{take-append-drop, length-take-le}
-use Rattle.i80_rows.specs.declared.instruction.Instr.{Instr}
-use Rattle.i80_rows.specs.declared.instruction.DecodeFault.{DecodeFault}
-use Rattle.i80_rows.specs.declared.instruction.DecodeFault.TheVariants as fault
-use Rattle.i80_rows.specs.Rows.{row, first_instruction}
+use Rattle.i80_base.specs.declared.instruction.Instr.{Instr}
+use Rattle.i80_base.specs.declared.instruction.DecodeFault.{DecodeFault}
+use Rattle.i80_base.specs.declared.instruction.DecodeFault.TheVariants as fault
+use Rattle.i80_base.specs.Rows.{row, first_instruction}
 use Rattle.i80_rows.specs.Encoding.{encoding_of}
 use Rattle.i80_rows.proofs.OnlyEncoding.{encoding_is}
 use Rattle.i80_dis.specs.declared.line.Shown.{Shown}

@@ -3,14 +3,14 @@ use Rattle.std.proofs.Common.{◌≡◌, ℕ, ◌+◌, ◌/◌, ◌%◌, ◌<◌
 use Rattle.std.proofs.Common.{Option, Some, Ok, refl, arith}
 use Rattle.std.specs.Prelude.{codes}
 use Rattle.std.proofs.lemmas.Bool.{lt-ltb}
-use Rattle.i80_rows.specs.declared.instruction.Instr.{Instr}
-use Rattle.i80_rows.specs.declared.instruction.Instr.TheVariants as instr
-use Rattle.i80_rows.specs.declared.instruction.Pair.{Pair}
-use Rattle.i80_rows.specs.declared.instruction.Reg.{Reg}
-use Rattle.i80_rows.specs.declared.instruction.Reg.TheVariants as reg
-use Rattle.i80_rows.specs.declared.instruction.Register.{Register}
-use Rattle.i80_rows.specs.declared.instruction.Vector.{Vector}
-use Rattle.i80_rows.specs.Codes.{reg_of, vector_code}
+use Rattle.i80_base.specs.declared.instruction.Instr.{Instr}
+use Rattle.i80_base.specs.declared.instruction.Instr.TheVariants as instr
+use Rattle.i80_base.specs.declared.instruction.Pair.{Pair}
+use Rattle.i80_base.specs.declared.instruction.Reg.{Reg}
+use Rattle.i80_base.specs.declared.instruction.Reg.TheVariants as reg
+use Rattle.i80_base.specs.declared.instruction.Register.{Register}
+use Rattle.i80_base.specs.declared.instruction.Vector.{Vector}
+use Rattle.i80_base.specs.Codes.{reg_of, vector_code}
 use Rattle.i80_rows.specs.Encoding.{encoding_of}
 use Rattle.i80_rows.proofs.Each.{each_register, each_vector}
 use Rattle.asm_syntax.specs.declared.keyword.Keyword.{Keyword as Word}
@@ -23,17 +23,17 @@ use Rattle.asm_syntax.specs.declared.keyword.RegisterOperation.TheVariants as re
 use Rattle.asm_syntax.specs.declared.keyword.PairOperation.TheVariants as pair_op
 use Rattle.asm_syntax.specs.declared.keyword.IndexOperation.TheVariants as index_op
 use Rattle.asm_syntax.specs.declared.keyword.StackOperation.TheVariants as stack_op
-use Rattle.i80_rows.specs.declared.instruction.ByteOperation.{ByteOperation}
-use Rattle.i80_rows.specs.declared.instruction.ByteOperation.TheVariants as byte_op
-use Rattle.i80_rows.specs.declared.instruction.WordOperation.{WordOperation}
-use Rattle.i80_rows.specs.declared.instruction.WordOperation.TheVariants as word_op
+use Rattle.i80_base.specs.declared.instruction.ByteOperation.{ByteOperation}
+use Rattle.i80_base.specs.declared.instruction.ByteOperation.TheVariants as byte_op
+use Rattle.i80_base.specs.declared.instruction.WordOperation.{WordOperation}
+use Rattle.i80_base.specs.declared.instruction.WordOperation.TheVariants as word_op
 use Rattle.asm_syntax.specs.declared.statement.Instruction as statement
 use Rattle.asm_syntax.specs.declared.statement.Instruction.TheVariants as instruction
 use Rattle.asm_syntax.specs.declared.statement.Data.{Data}
 use Rattle.asm_syntax.specs.declared.statement.Data.TheVariants as datum
 use Rattle.asm_syntax.specs.declared.statement.Action.{Action}
 use Rattle.asm_syntax.specs.declared.statement.Action.TheVariants as action
-use Rattle.i80_rows.specs.Instructions.{byte_instruction, word_instruction}
+use Rattle.i80_base.specs.Instructions.{byte_instruction, word_instruction}
 use Rattle.asm_syntax.specs.Lexemes.{Lexeme, Keyword, Number, Sign}
 use Rattle.asm_syntax.specs.Words.{keyword_of}
 use Rattle.asm_text.specs.Forms.{register_instruction, pair_instruction, index_instruction, stack_instruction}

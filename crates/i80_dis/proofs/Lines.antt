@@ -3,9 +3,9 @@ use Rattle.std.proofs.Common.{◌≡◌, ℕ, zero, suc, ◌+◌, ◌-◌, ◌*�
 use Rattle.std.proofs.Common.{drop, Bool, true, false, map, get_or, drop-cons, add-one, append_assoc}
 use Rattle.std.proofs.Common.{Option, Some, None, Result, Ok, Err, refl, sym, ap, ◌∙◌, arith}
 use Rattle.std.proofs.lemmas.List.{drop_all, append-nil}
-use Rattle.i80_rows.specs.declared.instruction.Instr.{Instr}
-use Rattle.i80_rows.specs.declared.instruction.DecodeFault.{DecodeFault}
-use Rattle.i80_rows.specs.Rows.{Row, Undefined, Alone, Byte, Word, row, first_instruction, read_row}
+use Rattle.i80_base.specs.declared.instruction.Instr.{Instr}
+use Rattle.i80_base.specs.declared.instruction.DecodeFault.{DecodeFault}
+use Rattle.i80_base.specs.Rows.{Row, Undefined, Alone, Byte, Word, row, first_instruction, read_row}
 use Rattle.i80_dis.specs.declared.line.Shown.{Shown}
 use Rattle.i80_dis.specs.declared.line.Shown.TheVariants.{Datum}
 use Rattle.i80_dis.specs.Shown.{is_cut_off, first_shown, next_shown, lines_from, lines_of}

@@ -18,8 +18,8 @@ use Rattle.asm_lex.proofs.HexNumerals.{IsNumeral, at_below, byte_numeral, word_n
 use Rattle.asm_lex.proofs.SpelledLines.{done, piece, blank, comma}
 use Rattle.asm_lex.proofs.Readings.{spells_read}
 use Rattle.asm_lex.proofs.Spelled.{or_false}
-use Rattle.i80_rows.specs.declared.instruction.Vector.{Vector}
-use Rattle.i80_rows.specs.Codes.{vector_code}
+use Rattle.i80_base.specs.declared.instruction.Vector.{Vector}
+use Rattle.i80_base.specs.Codes.{vector_code}
 use Rattle.i80_rows.proofs.Each.{each_vector}
 use Rattle.asm_syntax.specs.Numerals.{byte_text, word_text}
 use Rattle.i80_dis.specs.Text.{operand_field, vector_word}

@@ -3,10 +3,10 @@ use Rattle.std.proofs.Common.{◌≡◌, ◌↔◌, ℕ, zero, suc, ◌<◌, ◌
 use Rattle.std.proofs.Common.{take, map, Some, None, Result, Ok, Err, IfOk, refl, sym, ap, subst, ◌∙◌, arith}
 use Rattle.std.proofs.lemmas.List.{take-append-drop, length-drop}
 use Rattle.std.proofs.Math.Seq.{drop-append_seam}
-use Rattle.i80_rows.specs.declared.instruction.Instr.{Instr}
-use Rattle.i80_rows.specs.declared.instruction.DecodeFault.{DecodeFault}
-use Rattle.i80_rows.specs.declared.instruction.DecodeFault.TheVariants as fault
-use Rattle.i80_rows.specs.Rows.{Row, Undefined, Alone, Byte, Word, row, first_instruction, read_row}
+use Rattle.i80_base.specs.declared.instruction.Instr.{Instr}
+use Rattle.i80_base.specs.declared.instruction.DecodeFault.{DecodeFault}
+use Rattle.i80_base.specs.declared.instruction.DecodeFault.TheVariants as fault
+use Rattle.i80_base.specs.Rows.{Row, Undefined, Alone, Byte, Word, row, first_instruction, read_row}
 use Rattle.i80_rows.specs.Encoding.{Encodes}
 use Rattle.i80_rows.proofs.DecodeLemmas.{read_found, encoded_read}
 use Rattle.i80_dis.specs.declared.line.Shown.{Shown}

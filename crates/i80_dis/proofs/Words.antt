@@ -3,21 +3,21 @@ use Rattle.std.proofs.Common.{◌≡◌, ℕ, List, [], ◌∷◌, Bool, true, f
 use Rattle.std.specs.Prelude.{not, nat_le}
 use Rattle.std.specs.List.{list_all}
 use Rattle.std.specs.Char.{to_ascii_uppercase}
-use Rattle.i80_rows.specs.declared.instruction.Cond.{Cond}
-use Rattle.i80_rows.specs.declared.instruction.IndexPair.{IndexPair}
-use Rattle.i80_rows.specs.declared.instruction.Instr.TheVariants as instr
-use Rattle.i80_rows.specs.declared.instruction.Operation.{Operation}
-use Rattle.i80_rows.specs.declared.instruction.Pair.{Pair}
-use Rattle.i80_rows.specs.declared.instruction.Reg.{Reg}
-use Rattle.i80_rows.specs.declared.instruction.Rotation.{Rotation}
-use Rattle.i80_rows.specs.declared.instruction.StackPair.{StackPair}
+use Rattle.i80_base.specs.declared.instruction.Cond.{Cond}
+use Rattle.i80_base.specs.declared.instruction.IndexPair.{IndexPair}
+use Rattle.i80_base.specs.declared.instruction.Instr.TheVariants as instr
+use Rattle.i80_base.specs.declared.instruction.Operation.{Operation}
+use Rattle.i80_base.specs.declared.instruction.Pair.{Pair}
+use Rattle.i80_base.specs.declared.instruction.Reg.{Reg}
+use Rattle.i80_base.specs.declared.instruction.Rotation.{Rotation}
+use Rattle.i80_base.specs.declared.instruction.StackPair.{StackPair}
 use Rattle.asm_syntax.specs.declared.keyword.Keyword.{Keyword}
 use Rattle.asm_syntax.specs.declared.keyword.Keyword.TheVariants as keyword
 use Rattle.asm_syntax.specs.declared.keyword.Mnemonic.{Mnemonic}
 use Rattle.asm_syntax.specs.declared.keyword.Mnemonic.TheVariants as mnemonic
 use Rattle.asm_syntax.specs.declared.keyword.RegisterOperation.TheVariants as register_op
-use Rattle.i80_rows.specs.declared.instruction.ByteOperation.TheVariants as byte_op
-use Rattle.i80_rows.specs.declared.instruction.WordOperation.TheVariants as word_op
+use Rattle.i80_base.specs.declared.instruction.ByteOperation.TheVariants as byte_op
+use Rattle.i80_base.specs.declared.instruction.WordOperation.TheVariants as word_op
 use Rattle.asm_syntax.specs.Lexemes.{Lexeme, word_lexeme}
 use Rattle.asm_syntax.specs.Lexemes as lexeme
 use Rattle.asm_syntax.specs.Words.{keyword_of}

@@ -4,8 +4,8 @@ use Rattle.i80_dis.specs.declared.operand.Operand.{Operand}
 use Rattle.i80_dis.specs.declared.operand.Operand.TheVariants as operand
 use Rattle.i80_dis.specs.declared.operand.Operands.{Operands}
 use Rattle.i80_dis.specs.declared.operand.Operands.TheVariants as operands
-use Rattle.i80_rows.specs.declared.instruction.Instr.{Instr}
-use Rattle.i80_rows.specs.declared.instruction.Instr.TheVariants.{JumpIf, CallIf, RetIf}
+use Rattle.i80_base.specs.declared.instruction.Instr.{Instr}
+use Rattle.i80_base.specs.declared.instruction.Instr.TheVariants.{JumpIf, CallIf, RetIf}
 use Rattle.asm_syntax.specs.Numerals.{byte_text, word_text}
 use Rattle.i80_dis.specs.Text.{condition_word, mnemonic}
 

@@ -2,30 +2,30 @@
 -- Manual, chapter 3; numbers in hexadecimal, of two digits for a byte and four for a word.
 use Rattle.std.specs.Prelude.{ℕ, List, [], ◌∷◌, ◌++◌, codes}
 use Rattle.asm_syntax.specs.Numerals.{byte_text, word_text}
-use Rattle.i80_rows.specs.declared.instruction.Cond.{Cond}
-use Rattle.i80_rows.specs.declared.instruction.Cond.TheVariants as cond
-use Rattle.i80_rows.specs.declared.instruction.IndexPair.{IndexPair}
-use Rattle.i80_rows.specs.declared.instruction.IndexPair.TheVariants as index
-use Rattle.i80_rows.specs.declared.instruction.Instr.{Instr}
-use Rattle.i80_rows.specs.declared.instruction.Instr.TheVariants.{Nop, Lxi, Stax, Ldax, Shld, Lhld, Sta, Lda}
-use Rattle.i80_rows.specs.declared.instruction.Instr.TheVariants.{Inx, Dcx, Dad, Inr, Dcr, Mvi, Rotate, Daa}
-use Rattle.i80_rows.specs.declared.instruction.Instr.TheVariants.{Cma, Stc, Cmc, Mov, MovFromM, MovToM, Hlt}
-use Rattle.i80_rows.specs.declared.instruction.Instr.TheVariants.{Alu, AluImmediate, Jmp, JumpIf, Call}
-use Rattle.i80_rows.specs.declared.instruction.Instr.TheVariants.{CallIf, Ret, RetIf, Rst, Push, Pop, Xthl}
-use Rattle.i80_rows.specs.declared.instruction.Instr.TheVariants.{Xchg, Pchl, Sphl, Out, In, Di, Ei}
-use Rattle.i80_rows.specs.declared.instruction.Operation.{Operation}
-use Rattle.i80_rows.specs.declared.instruction.Operation.TheVariants as operation
-use Rattle.i80_rows.specs.declared.instruction.Pair.{Pair}
-use Rattle.i80_rows.specs.declared.instruction.Pair.TheVariants as pair
-use Rattle.i80_rows.specs.declared.instruction.Reg.{Reg}
-use Rattle.i80_rows.specs.declared.instruction.Reg.TheVariants as reg
-use Rattle.i80_rows.specs.declared.instruction.Rotation.{Rotation}
-use Rattle.i80_rows.specs.declared.instruction.Rotation.TheVariants as rotation
-use Rattle.i80_rows.specs.declared.instruction.StackPair.{StackPair}
-use Rattle.i80_rows.specs.declared.instruction.StackPair.TheVariants as stack
-use Rattle.i80_rows.specs.declared.instruction.Vector.{Vector}
-use Rattle.i80_rows.specs.declared.instruction.Vector.TheVariants as vector
-use Rattle.i80_rows.specs.Codes.{reg_of}
+use Rattle.i80_base.specs.declared.instruction.Cond.{Cond}
+use Rattle.i80_base.specs.declared.instruction.Cond.TheVariants as cond
+use Rattle.i80_base.specs.declared.instruction.IndexPair.{IndexPair}
+use Rattle.i80_base.specs.declared.instruction.IndexPair.TheVariants as index
+use Rattle.i80_base.specs.declared.instruction.Instr.{Instr}
+use Rattle.i80_base.specs.declared.instruction.Instr.TheVariants.{Nop, Lxi, Stax, Ldax, Shld, Lhld, Sta, Lda}
+use Rattle.i80_base.specs.declared.instruction.Instr.TheVariants.{Inx, Dcx, Dad, Inr, Dcr, Mvi, Rotate, Daa}
+use Rattle.i80_base.specs.declared.instruction.Instr.TheVariants.{Cma, Stc, Cmc, Mov, MovFromM, MovToM, Hlt}
+use Rattle.i80_base.specs.declared.instruction.Instr.TheVariants.{Alu, AluImmediate, Jmp, JumpIf, Call}
+use Rattle.i80_base.specs.declared.instruction.Instr.TheVariants.{CallIf, Ret, RetIf, Rst, Push, Pop, Xthl}
+use Rattle.i80_base.specs.declared.instruction.Instr.TheVariants.{Xchg, Pchl, Sphl, Out, In, Di, Ei}
+use Rattle.i80_base.specs.declared.instruction.Operation.{Operation}
+use Rattle.i80_base.specs.declared.instruction.Operation.TheVariants as operation
+use Rattle.i80_base.specs.declared.instruction.Pair.{Pair}
+use Rattle.i80_base.specs.declared.instruction.Pair.TheVariants as pair
+use Rattle.i80_base.specs.declared.instruction.Reg.{Reg}
+use Rattle.i80_base.specs.declared.instruction.Reg.TheVariants as reg
+use Rattle.i80_base.specs.declared.instruction.Rotation.{Rotation}
+use Rattle.i80_base.specs.declared.instruction.Rotation.TheVariants as rotation
+use Rattle.i80_base.specs.declared.instruction.StackPair.{StackPair}
+use Rattle.i80_base.specs.declared.instruction.StackPair.TheVariants as stack
+use Rattle.i80_base.specs.declared.instruction.Vector.{Vector}
+use Rattle.i80_base.specs.declared.instruction.Vector.TheVariants as vector
+use Rattle.i80_base.specs.Codes.{reg_of}
 use Rattle.i80_dis.specs.declared.line.Shown.{Shown}
 use Rattle.i80_dis.specs.declared.line.Shown.TheVariants.{Instruction, Datum}
 use Rattle.i80_dis.specs.Shown.{first_shown, lines_of}

@@ -7,8 +7,8 @@ ghost use Rattle.i80_dis.specs.Text.{text_of, first_text};
 use crate::mnemonic::push_mnemonic;
 use crate::operand::{operands_of, push_operands};
 use asm_syntax::numeral::push_byte;
+use i80_base::instruction::{DecodeFault, Instr};
 use i80_rows::decoding::decode;
-use i80_rows::instruction::{DecodeFault, Instr};
 use std::alloc::{AllocError, Global};
 
 /// What a line shows.

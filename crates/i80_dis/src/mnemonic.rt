@@ -3,7 +3,7 @@ ghost use Rattle.std.specs.Prelude.{◌≡◌, ◌++◌, OnOk, string_bytes};
 ghost use Rattle.i80_dis.specs.Text.{condition_word, operation_word, immediate_word, rotation_word, mnemonic};
 ghost use Rattle.i80_dis.specs.State.{stem, ending};
 
-use i80_rows::instruction::{Cond, Instr, Operation, Rotation};
+use i80_base::instruction::{Cond, Instr, Operation, Rotation};
 use std::alloc::AllocError;
 
 fn condition_word(cond: Cond) -> &'static str

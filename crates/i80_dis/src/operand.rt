@@ -5,7 +5,7 @@ ghost use Rattle.i80_dis.specs.Text.{operand_field};
 ghost use Rattle.i80_dis.specs.State.{operand_text, texts_of};
 
 use asm_syntax::numeral::{push_byte, push_word};
-use i80_rows::instruction::{IndexPair, Instr, Pair, Reg, StackPair, Vector};
+use i80_base::instruction::{IndexPair, Instr, Pair, Reg, StackPair, Vector};
 use std::alloc::AllocError;
 
 /// An operand.

@@ -2,11 +2,11 @@
 use Rattle.std.proofs.Common.{◌≡◌, ℕ, ◌<◌, ◌==◌, true, false, cond, refl, sym, ap, ◌∙◌, arith, subst, ◌⊎◌}
 use Rattle.std.proofs.Common.{inl, inr, List, append-nil, add-zero}
 use Rattle.std.proofs.lemmas.Bool.Decides.{nat_tests}
-use Rattle.i80_rows.specs.declared.board.Board.{Board}
-use Rattle.i80_rows.specs.declared.instruction.Instr.TheVariants.{Nop, Jmp, Call, Ret}
-use Rattle.i80_rows.specs.Rows.{Row, Undefined, Alone, Byte, Word, row, is_undefined}
-use Rattle.i80_rows.specs.AliasRows.{acts, alias_row, or_alias, row_on}
-use Rattle.i80_rows.proofs.Tables.{agree, table}
+use Rattle.i80_base.specs.declared.board.Board.{Board}
+use Rattle.i80_base.specs.declared.instruction.Instr.TheVariants.{Nop, Jmp, Call, Ret}
+use Rattle.i80_base.specs.Rows.{Row, Undefined, Alone, Byte, Word, row, is_undefined}
+use Rattle.i80_base.specs.AliasRows.{acts, alias_row, or_alias, row_on}
+use Rattle.i80_base.proofs.Tables.{agree, table}
 use Rattle.i80_exec.specs.declared.registers.Kind.{Kind}
 use Rattle.i80_exec.specs.declared.registers.Kind.TheVariants as kind
 use Rattle.i80_exec.specs.State.{MachineState, byte_at}

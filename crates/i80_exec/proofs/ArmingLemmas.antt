@@ -1,22 +1,22 @@
 -- The interrupt state before an instruction, where EI was the last one and where it wasn't.
 use Rattle.std.proofs.Common.{◌≡◌, ℕ, ◌+◌, Bool, true, false, if◌then◌else◌, refl, sym, ap, subst, ◌∙◌}
-use Rattle.i80_rows.specs.declared.instruction.Instr.{Instr}
-use Rattle.i80_rows.specs.declared.instruction.Instr.TheVariants.{Nop, Lxi, Stax, Ldax, Inx, Dcx, Dad}
-use Rattle.i80_rows.specs.declared.instruction.Instr.TheVariants.{Inr, Dcr, Mvi, Mov, MovFromM, MovToM}
-use Rattle.i80_rows.specs.declared.instruction.Instr.TheVariants.{Alu, AluImmediate, JumpIf, CallIf}
-use Rattle.i80_rows.specs.declared.instruction.Instr.TheVariants.{RetIf, Push, Pop}
-use Rattle.i80_rows.specs.declared.instruction.Reg.{Reg}
-use Rattle.i80_rows.specs.declared.instruction.Reg.TheVariants as reg
-use Rattle.i80_rows.specs.declared.instruction.Pair.{Pair}
-use Rattle.i80_rows.specs.declared.instruction.Pair.TheVariants as pair
-use Rattle.i80_rows.specs.declared.instruction.StackPair.{StackPair}
-use Rattle.i80_rows.specs.declared.instruction.StackPair.TheVariants as stack
-use Rattle.i80_rows.specs.declared.instruction.IndexPair.{IndexPair}
-use Rattle.i80_rows.specs.declared.instruction.IndexPair.TheVariants as index
-use Rattle.i80_rows.specs.declared.instruction.Operation.{Operation}
-use Rattle.i80_rows.specs.declared.instruction.Operation.TheVariants as operation
-use Rattle.i80_rows.specs.Rows.{Row, Undefined, Alone, Byte, Word, is_undefined}
-use Rattle.i80_rows.specs.Codes.{reg_of}
+use Rattle.i80_base.specs.declared.instruction.Instr.{Instr}
+use Rattle.i80_base.specs.declared.instruction.Instr.TheVariants.{Nop, Lxi, Stax, Ldax, Inx, Dcx, Dad}
+use Rattle.i80_base.specs.declared.instruction.Instr.TheVariants.{Inr, Dcr, Mvi, Mov, MovFromM, MovToM}
+use Rattle.i80_base.specs.declared.instruction.Instr.TheVariants.{Alu, AluImmediate, JumpIf, CallIf}
+use Rattle.i80_base.specs.declared.instruction.Instr.TheVariants.{RetIf, Push, Pop}
+use Rattle.i80_base.specs.declared.instruction.Reg.{Reg}
+use Rattle.i80_base.specs.declared.instruction.Reg.TheVariants as reg
+use Rattle.i80_base.specs.declared.instruction.Pair.{Pair}
+use Rattle.i80_base.specs.declared.instruction.Pair.TheVariants as pair
+use Rattle.i80_base.specs.declared.instruction.StackPair.{StackPair}
+use Rattle.i80_base.specs.declared.instruction.StackPair.TheVariants as stack
+use Rattle.i80_base.specs.declared.instruction.IndexPair.{IndexPair}
+use Rattle.i80_base.specs.declared.instruction.IndexPair.TheVariants as index
+use Rattle.i80_base.specs.declared.instruction.Operation.{Operation}
+use Rattle.i80_base.specs.declared.instruction.Operation.TheVariants as operation
+use Rattle.i80_base.specs.Rows.{Row, Undefined, Alone, Byte, Word, is_undefined}
+use Rattle.i80_base.specs.Codes.{reg_of}
 use Rattle.i80_exec.specs.declared.registers.Interrupts.{Interrupts}
 use Rattle.i80_exec.specs.declared.registers.Interrupts.TheVariants.{Off, Arming, On}
 use Rattle.i80_exec.specs.State.{
@@ -34,8 +34,8 @@ use Rattle.i80_exec.specs.State.{
   get_stack_pair,
   put_stack_pair,
 }
-use Rattle.i80_rows.specs.declared.arithmetic.AluResult.{AluResult}
-use Rattle.i80_rows.specs.Arithmetic.{increment, decrement}
+use Rattle.i80_base.specs.declared.arithmetic.AluResult.{AluResult}
+use Rattle.i80_base.specs.Arithmetic.{increment, decrement}
 use Rattle.i80_exec.specs.declared.registers.Stepped.{Stepped}
 use Rattle.i80_exec.specs.declared.registers.Stepped.TheVariants as stepped
 use Rattle.i80_exec.specs.Effect.{Outcome, effect, done_at, after_call, after_return, after_pop}

@@ -2,12 +2,12 @@
 use Rattle.std.proofs.Common.{◌≡◌, ℕ, ◌+◌, ◌-◌, ◌/◌, ◌%◌, ◌<◌, ◌≤◌, ◌==◌, true, false, cond, None, refl, ap}
 use Rattle.std.proofs.Common.{subst, sym, ◌∙◌, arith}
 use Rattle.std.proofs.lemmas.Bool.Decides.{nat_tests}
-use Rattle.i80_rows.specs.declared.instruction.Instr.TheVariants.{Nop}
-use Rattle.i80_rows.specs.declared.instruction.Reg.{Reg}
-use Rattle.i80_rows.specs.declared.instruction.Reg.TheVariants as reg
-use Rattle.i80_rows.specs.Arithmetic.{decrement}
-use Rattle.i80_rows.specs.Rows.{row}
-use Rattle.i80_rows.proofs.Tables.{agree, table}
+use Rattle.i80_base.specs.declared.instruction.Instr.TheVariants.{Nop}
+use Rattle.i80_base.specs.declared.instruction.Reg.{Reg}
+use Rattle.i80_base.specs.declared.instruction.Reg.TheVariants as reg
+use Rattle.i80_base.specs.Arithmetic.{decrement}
+use Rattle.i80_base.specs.Rows.{row}
+use Rattle.i80_base.proofs.Tables.{agree, table}
 use Rattle.i80_exec.specs.declared.registers.Stepped.TheVariants.{Halted}
 use Rattle.i80_exec.specs.declared.registers.Interrupts.{Interrupts}
 use Rattle.i80_exec.specs.State.{MachineState, modulo_65536, with_pc, with_interrupts, get, with_reg}

@@ -1,9 +1,9 @@
 -- A row that asks no port is the same whatever the ports answer.
 use Rattle.std.proofs.Common.{◌≡◌, ℕ, ◌+◌, None, refl, ap, sym, ◌∙◌, append-nil, add-zero}
 use Rattle.std.proofs.lemmas.Option.{none-some}
-use Rattle.i80_rows.specs.declared.instruction.Instr.{Instr}
-use Rattle.i80_rows.specs.declared.instruction.Instr.TheVariants.{In}
-use Rattle.i80_rows.specs.Rows.{Row, Undefined, Alone, Byte, Word}
+use Rattle.i80_base.specs.declared.instruction.Instr.{Instr}
+use Rattle.i80_base.specs.declared.instruction.Instr.TheVariants.{In}
+use Rattle.i80_base.specs.Rows.{Row, Undefined, Alone, Byte, Word}
 use Rattle.i80_exec.specs.declared.registers.Stepped.{Stepped}
 use Rattle.i80_exec.specs.State.{MachineState, modulo_65536, byte_at, word_at, with_pc}
 use Rattle.i80_exec.specs.Effect.{effect}

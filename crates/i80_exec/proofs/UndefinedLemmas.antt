@@ -1,9 +1,9 @@
 -- Undefined is answered exactly where an undefined opcode stands at PC.
 use Rattle.std.proofs.Common.{◌≡◌, ℕ, ◌+◌, true, false, None, refl, sym, subst}
 use Rattle.std.proofs.lemmas.Bool.{cond_both}
-use Rattle.i80_rows.specs.declared.instruction.Instr.{Instr}
-use Rattle.i80_rows.specs.declared.instruction.Instr.TheVariants.{JumpIf, CallIf, RetIf}
-use Rattle.i80_rows.specs.Rows.{Row, Undefined, Alone, Byte, Word, is_undefined}
+use Rattle.i80_base.specs.declared.instruction.Instr.{Instr}
+use Rattle.i80_base.specs.declared.instruction.Instr.TheVariants.{JumpIf, CallIf, RetIf}
+use Rattle.i80_base.specs.Rows.{Row, Undefined, Alone, Byte, Word, is_undefined}
 use Rattle.i80_exec.specs.declared.registers.Stepped.{Stepped}
 use Rattle.i80_exec.specs.declared.registers.Stepped.TheVariants as stepped
 use Rattle.i80_exec.specs.declared.registers.Kind.{Kind}

@@ -16,9 +16,9 @@ use Rattle.std.specs.Prelude.{
   nat_lt,
   if◌then◌else◌,
 }
-use Rattle.i80_rows.specs.declared.arithmetic.AluResult.{AluResult}
-use Rattle.i80_rows.specs.declared.instruction.Instr.{Instr}
-use Rattle.i80_rows.specs.declared.instruction.Instr.TheVariants.{
+use Rattle.i80_base.specs.declared.arithmetic.AluResult.{AluResult}
+use Rattle.i80_base.specs.declared.instruction.Instr.{Instr}
+use Rattle.i80_base.specs.declared.instruction.Instr.TheVariants.{
   Nop,
   Lxi,
   Stax,
@@ -62,15 +62,15 @@ use Rattle.i80_rows.specs.declared.instruction.Instr.TheVariants.{
   Di,
   Ei,
 }
-use Rattle.i80_rows.specs.declared.instruction.Reg.{Reg}
-use Rattle.i80_rows.specs.declared.instruction.Reg.TheVariants as reg
-use Rattle.i80_rows.specs.declared.instruction.Pair.TheVariants as pair
-use Rattle.i80_rows.specs.declared.instruction.Cond.{Cond}
-use Rattle.i80_rows.specs.declared.instruction.Cond.TheVariants as cond
-use Rattle.i80_rows.specs.declared.instruction.Operation.{Operation}
-use Rattle.i80_rows.specs.declared.instruction.Operation.TheVariants.{Add, Adc, Sub, Sbb, Ana, Xra, Ora, Cmp}
-use Rattle.i80_rows.specs.FlagValues.{FlagValues}
-use Rattle.i80_rows.specs.Arithmetic.{
+use Rattle.i80_base.specs.declared.instruction.Reg.{Reg}
+use Rattle.i80_base.specs.declared.instruction.Reg.TheVariants as reg
+use Rattle.i80_base.specs.declared.instruction.Pair.TheVariants as pair
+use Rattle.i80_base.specs.declared.instruction.Cond.{Cond}
+use Rattle.i80_base.specs.declared.instruction.Cond.TheVariants as cond
+use Rattle.i80_base.specs.declared.instruction.Operation.{Operation}
+use Rattle.i80_base.specs.declared.instruction.Operation.TheVariants.{Add, Adc, Sub, Sbb, Ana, Xra, Ora, Cmp}
+use Rattle.i80_base.specs.FlagValues.{FlagValues}
+use Rattle.i80_base.specs.Arithmetic.{
   sum,
   difference,
   conjunction,
@@ -81,11 +81,11 @@ use Rattle.i80_rows.specs.Arithmetic.{
   decrement,
   decimal_adjustment,
 }
-use Rattle.i80_rows.specs.Codes.{reg_of, vector_code}
+use Rattle.i80_base.specs.Codes.{reg_of, vector_code}
 use Rattle.i80_exec.specs.declared.registers.Stepped.{Stepped}
 use Rattle.i80_exec.specs.declared.registers.Stepped.TheVariants.{Done, Called, Returned, Halted}
-use Rattle.i80_exec.specs.declared.ports.PortOperation.{PortOperation}
-use Rattle.i80_exec.specs.declared.ports.PortOperation.TheVariants as port
+use Rattle.i80_base.specs.declared.ports.PortOperation.{PortOperation}
+use Rattle.i80_base.specs.declared.ports.PortOperation.TheVariants as port
 use Rattle.i80_exec.specs.State.{
   MachineState,
   modulo_65536,

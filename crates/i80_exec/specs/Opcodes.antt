@@ -1,9 +1,9 @@
 -- The registers and the operation that the bits of an opcode of 40 to BF name.
 use Rattle.std.specs.Prelude.{ℕ, [], ◌∷◌, slice_index_or}
-use Rattle.i80_rows.specs.declared.instruction.Reg.{Reg}
-use Rattle.i80_rows.specs.declared.instruction.Reg.TheVariants as reg
-use Rattle.i80_rows.specs.declared.instruction.Operation.{Operation}
-use Rattle.i80_rows.specs.declared.instruction.Operation.TheVariants as operation
+use Rattle.i80_base.specs.declared.instruction.Reg.{Reg}
+use Rattle.i80_base.specs.declared.instruction.Reg.TheVariants as reg
+use Rattle.i80_base.specs.declared.instruction.Operation.{Operation}
+use Rattle.i80_base.specs.declared.instruction.Operation.TheVariants as operation
 
 -- the register of a code of three bits, or the byte in memory at HL
 abbrev pub reg_at : ℕ → Reg

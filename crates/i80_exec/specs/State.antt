@@ -1,17 +1,17 @@
 -- A processor with its memory, and how its parts are read and written.
 use Rattle.std.specs.Prelude.{ℕ, ◌+◌, ◌*◌, ◌/◌, ◌%◌, List, false, replicate, slice_index, slice_set}
 use Rattle.std.specs.List.{fold}
-use Rattle.i80_rows.specs.declared.board.Board.{Board}
-use Rattle.i80_rows.specs.declared.board.Board.TheVariants.{Strict}
-use Rattle.i80_rows.specs.declared.instruction.Reg.{Reg}
-use Rattle.i80_rows.specs.declared.instruction.Reg.TheVariants as reg
-use Rattle.i80_rows.specs.declared.instruction.Pair.{Pair}
-use Rattle.i80_rows.specs.declared.instruction.Pair.TheVariants as pair
-use Rattle.i80_rows.specs.declared.instruction.StackPair.{StackPair}
-use Rattle.i80_rows.specs.declared.instruction.StackPair.TheVariants as stack
-use Rattle.i80_rows.specs.declared.instruction.IndexPair.{IndexPair}
-use Rattle.i80_rows.specs.declared.instruction.IndexPair.TheVariants as index
-use Rattle.i80_rows.specs.FlagValues.{FlagValues, flag_byte, flags_of}
+use Rattle.i80_base.specs.declared.board.Board.{Board}
+use Rattle.i80_base.specs.declared.board.Board.TheVariants.{Strict}
+use Rattle.i80_base.specs.declared.instruction.Reg.{Reg}
+use Rattle.i80_base.specs.declared.instruction.Reg.TheVariants as reg
+use Rattle.i80_base.specs.declared.instruction.Pair.{Pair}
+use Rattle.i80_base.specs.declared.instruction.Pair.TheVariants as pair
+use Rattle.i80_base.specs.declared.instruction.StackPair.{StackPair}
+use Rattle.i80_base.specs.declared.instruction.StackPair.TheVariants as stack
+use Rattle.i80_base.specs.declared.instruction.IndexPair.{IndexPair}
+use Rattle.i80_base.specs.declared.instruction.IndexPair.TheVariants as index
+use Rattle.i80_base.specs.FlagValues.{FlagValues, flag_byte, flags_of}
 use Rattle.i80_exec.specs.declared.registers.Registers.{Registers}
 use Rattle.i80_exec.specs.declared.registers.Interrupts.{Interrupts}
 use Rattle.i80_exec.specs.declared.registers.Interrupts.TheVariants.{Off}

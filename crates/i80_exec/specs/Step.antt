@@ -8,6 +8,7 @@ use Rattle.std.specs.Prelude.{
   [],
   ◌∷◌,
   ◌≤◌,
+  ◌<◌,
   ◌++◌,
   length,
   Bool,
@@ -17,19 +18,19 @@ use Rattle.std.specs.Prelude.{
   Some,
   None,
 }
-use Rattle.i80_rows.specs.declared.instruction.Instr.{Instr}
-use Rattle.i80_rows.specs.declared.instruction.Instr.TheVariants.{Nop, Di, Ei, Lxi, Inx, Dcx, Push, Pop, Sphl}
-use Rattle.i80_rows.specs.declared.instruction.Pair.{Pair}
-use Rattle.i80_rows.specs.declared.instruction.Pair.TheVariants as pair
-use Rattle.i80_rows.specs.Rows.{Row, Undefined, Alone, Byte, Word, row}
-use Rattle.i80_rows.specs.AliasRows.{row_on}
+use Rattle.i80_base.specs.declared.instruction.Instr.{Instr}
+use Rattle.i80_base.specs.declared.instruction.Instr.TheVariants.{Nop, Di, Ei, Lxi, Inx, Dcx, Push, Pop, Sphl}
+use Rattle.i80_base.specs.declared.instruction.Pair.{Pair}
+use Rattle.i80_base.specs.declared.instruction.Pair.TheVariants as pair
+use Rattle.i80_base.specs.Rows.{Row, Undefined, Alone, Byte, Word, row}
+use Rattle.i80_base.specs.AliasRows.{row_on}
 use Rattle.i80_exec.specs.declared.registers.Stepped.{Stepped}
 use Rattle.i80_exec.specs.declared.registers.Stepped.TheVariants as stepped
 use Rattle.i80_exec.specs.declared.registers.Kind.{Kind}
 use Rattle.i80_exec.specs.declared.registers.Kind.TheVariants as kind
 use Rattle.i80_exec.specs.declared.registers.Interrupts.{Interrupts}
 use Rattle.i80_exec.specs.declared.registers.Interrupts.TheVariants.{Off, Arming, On}
-use Rattle.i80_exec.specs.declared.ports.PortOperation.{PortOperation}
+use Rattle.i80_base.specs.declared.ports.PortOperation.{PortOperation}
 use Rattle.i80_exec.specs.State.{MachineState, modulo_65536, byte_at, word_at, with_pc, with_interrupts}
 use Rattle.i80_exec.specs.Effect.{Outcome, effect, after_call}
 
@@ -213,3 +214,16 @@ pub record IsAtOpcode (code : ℕ) (m : MachineState) (room : ℕ) : Type 0 wher
   pub opcode : code ≡ byte_at m m.regs.pc
   pub settled : is_arming m.regs.interrupts ≡ false
   pub spare : 1 ≤ room
+
+-- this is the opcode at PC of such a machine, and one of a group
+pub record IsInGroup (first past code : ℕ) (m : MachineState) : Type 0 where
+  pub opcode : code ≡ byte_at m m.regs.pc
+  pub settled : is_arming m.regs.interrupts ≡ false
+  pub low : first ≤ code
+  pub high : code < past
+
+-- a step of this kind did this, and its kind says what the row does to SP and to the interrupt state
+pub record IsStepByRow (kind : Kind) (r : Row) (before after : MachineState) (Does : Type 0) : Type 0 where
+  pub outcome : Does
+  pub settles : Settles kind before after
+  pub moved : is_moved kind ≡ row_moves_sp r

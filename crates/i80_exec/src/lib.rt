@@ -6,5 +6,6 @@
 #![tactic(auto)]
 
 pub mod machine;
-pub mod ports;
 pub mod registers;
+
+pub use i80_base::ports;

@@ -1,8 +1,8 @@
 //! The processor with its memory, the operations that its instructions are made of, and its single step.
 ghost use Rattle.std.specs.Prelude.{◌≡◌, ◌+◌, ◌*◌, ◌<◌, ◌≤◌, ◌++◌, List, ℕ, length, replicate, IfOk};
 ghost use Rattle.std.specs.Prelude.{IfSome, IfNone, Some, None, true, false};
-ghost use Rattle.i80_rows.specs.declared.arithmetic.AluResult.{AluResult};
-ghost use Rattle.i80_rows.specs.declared.instruction.Instr.TheVariants.{Xthl};
+ghost use Rattle.i80_base.specs.declared.arithmetic.AluResult.{AluResult};
+ghost use Rattle.i80_base.specs.declared.instruction.Instr.TheVariants.{Xthl};
 ghost use Rattle.i80_exec.specs.State.{byte_at, with_byte, word_at, stored_word, get_pair, put_pair};
 ghost use Rattle.i80_exec.specs.State.{get_stack_pair, put_stack_pair, with_regs, with_board};
 ghost use Rattle.i80_exec.specs.State.{with_pc, with_a, with_flags, with_interrupts, power_on};
@@ -16,13 +16,13 @@ ghost use Rattle.i80_exec.specs.Step.{IsStepOfKind, CanStepSettled};
 
 mod opcodes;
 
-use crate::ports::Ports;
 use crate::registers::{Interrupts, Kind, Registers, Stepped};
-use i80_rows::arithmetic::{AluResult, alu_add, alu_and, alu_or, alu_sub, alu_xor};
-use i80_rows::board::Board;
-use i80_rows::flags::Flags;
-use i80_rows::instruction::{Cond, Operation, Pair, Reg, StackPair};
-use i80_rows::memory::MEMORY_SIZE;
+use i80_base::arithmetic::{AluResult, alu_add, alu_and, alu_or, alu_sub, alu_xor};
+use i80_base::board::Board;
+use i80_base::flags::Flags;
+use i80_base::instruction::{Cond, Operation, Pair, Reg, StackPair};
+use i80_base::memory::MEMORY_SIZE;
+use i80_base::ports::Ports;
 use std::alloc::{AllocError, Global};
 use std::marker::Model;
 

@@ -1,5 +1,5 @@
 //! The registers of the processor, and what a step reports.
-use i80_rows::flags::Flags;
+use i80_base::flags::Flags;
 
 /// Whether interrupt requests are accepted. EI sets `Arming`, so that the instruction after it is
 /// executed before a request is accepted.

@@ -1,8 +1,8 @@
 -- On a strict board the table is that of 256 rows.
 use Rattle.std.proofs.Common.{◌≡◌, ℕ, List, [], ◌∷◌, refl}
-use Rattle.i80_rows.specs.declared.board.Board.TheVariants.{Strict}
-use Rattle.i80_rows.specs.Rows.{Row, Undefined, Alone, Byte, Word, first_instruction, row}
-use Rattle.i80_rows.specs.AliasRows.{alias_row, or_alias, read_on}
+use Rattle.i80_base.specs.declared.board.Board.TheVariants.{Strict}
+use Rattle.i80_base.specs.Rows.{Row, Undefined, Alone, Byte, Word, first_instruction, row}
+use Rattle.i80_base.specs.AliasRows.{alias_row, or_alias, read_on}
 
 strict-row : (r alias : Row) → or_alias r Strict alias ≡ r
 strict-row Undefined alias = refl

@@ -18,8 +18,8 @@ use Rattle.std.proofs.Common.{
   sym,
   subst,
 }
-use Rattle.i80_rows.specs.declared.instruction.Instr.{Instr}
-use Rattle.i80_rows.specs.Rows.{Row, Alone, Byte, Word, first_instruction, read_row, row}
+use Rattle.i80_base.specs.declared.instruction.Instr.{Instr}
+use Rattle.i80_base.specs.Rows.{Row, Alone, Byte, Word, first_instruction, read_row, row}
 use Rattle.i80_rows.specs.Encoding.{Encodes, IsOperand}
 
 -- what a row reads after its opcode, the row encodes

@@ -1,22 +1,22 @@
 -- What each register, each pair and so on has, they all have.
-use Rattle.i80_rows.specs.declared.instruction.Reg.{Reg}
-use Rattle.i80_rows.specs.declared.instruction.Reg.TheVariants as reg
-use Rattle.i80_rows.specs.declared.instruction.Register.{Register}
-use Rattle.i80_rows.specs.declared.instruction.Register.TheVariants as register
-use Rattle.i80_rows.specs.declared.instruction.Pair.{Pair}
-use Rattle.i80_rows.specs.declared.instruction.Pair.TheVariants as pair
-use Rattle.i80_rows.specs.declared.instruction.StackPair.{StackPair}
-use Rattle.i80_rows.specs.declared.instruction.StackPair.TheVariants as stack
-use Rattle.i80_rows.specs.declared.instruction.IndexPair.{IndexPair}
-use Rattle.i80_rows.specs.declared.instruction.IndexPair.TheVariants as index
-use Rattle.i80_rows.specs.declared.instruction.Cond.{Cond}
-use Rattle.i80_rows.specs.declared.instruction.Cond.TheVariants as cond
-use Rattle.i80_rows.specs.declared.instruction.Operation.{Operation}
-use Rattle.i80_rows.specs.declared.instruction.Operation.TheVariants as operation
-use Rattle.i80_rows.specs.declared.instruction.Rotation.{Rotation}
-use Rattle.i80_rows.specs.declared.instruction.Rotation.TheVariants as rotation
-use Rattle.i80_rows.specs.declared.instruction.Vector.{Vector}
-use Rattle.i80_rows.specs.declared.instruction.Vector.TheVariants as vector
+use Rattle.i80_base.specs.declared.instruction.Reg.{Reg}
+use Rattle.i80_base.specs.declared.instruction.Reg.TheVariants as reg
+use Rattle.i80_base.specs.declared.instruction.Register.{Register}
+use Rattle.i80_base.specs.declared.instruction.Register.TheVariants as register
+use Rattle.i80_base.specs.declared.instruction.Pair.{Pair}
+use Rattle.i80_base.specs.declared.instruction.Pair.TheVariants as pair
+use Rattle.i80_base.specs.declared.instruction.StackPair.{StackPair}
+use Rattle.i80_base.specs.declared.instruction.StackPair.TheVariants as stack
+use Rattle.i80_base.specs.declared.instruction.IndexPair.{IndexPair}
+use Rattle.i80_base.specs.declared.instruction.IndexPair.TheVariants as index
+use Rattle.i80_base.specs.declared.instruction.Cond.{Cond}
+use Rattle.i80_base.specs.declared.instruction.Cond.TheVariants as cond
+use Rattle.i80_base.specs.declared.instruction.Operation.{Operation}
+use Rattle.i80_base.specs.declared.instruction.Operation.TheVariants as operation
+use Rattle.i80_base.specs.declared.instruction.Rotation.{Rotation}
+use Rattle.i80_base.specs.declared.instruction.Rotation.TheVariants as rotation
+use Rattle.i80_base.specs.declared.instruction.Vector.{Vector}
+use Rattle.i80_base.specs.declared.instruction.Vector.TheVariants as vector
 
 pub each_reg : (P : Reg → Type 0) → P reg.B → P reg.C → P reg.D → P reg.E
     → P reg.H → P reg.L → P reg.M → P reg.A → (x : Reg) → P x

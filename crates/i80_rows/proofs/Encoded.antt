@@ -1,19 +1,19 @@
 -- The encoding in numbers encodes its instruction by the table of 256 rows.
 use Rattle.std.proofs.Common.{◌≡◌, ℕ, ◌+◌, ◌*◌, ◌/◌, ◌%◌, [], ◌∷◌, refl, ap, arith}
-use Rattle.i80_rows.specs.declared.instruction.Instr.{Instr}
-use Rattle.i80_rows.specs.declared.instruction.Instr.TheVariants.{Lxi, Stax, Ldax, Shld, Lhld, Sta, Lda, Inx}
-use Rattle.i80_rows.specs.declared.instruction.Instr.TheVariants.{Dcx, Dad, Inr, Dcr, Mvi, Rotate, Mov}
-use Rattle.i80_rows.specs.declared.instruction.Instr.TheVariants.{MovFromM, MovToM, Alu, AluImmediate, Jmp}
-use Rattle.i80_rows.specs.declared.instruction.Instr.TheVariants.{JumpIf, Call, CallIf, RetIf, Rst, Push, Pop}
-use Rattle.i80_rows.specs.declared.instruction.Reg.{Reg}
-use Rattle.i80_rows.specs.declared.instruction.Register.{Register}
-use Rattle.i80_rows.specs.declared.instruction.Register.TheVariants as register
-use Rattle.i80_rows.specs.declared.instruction.Pair.{Pair}
-use Rattle.i80_rows.specs.declared.instruction.Cond.{Cond}
-use Rattle.i80_rows.specs.declared.instruction.Operation.{Operation}
-use Rattle.i80_rows.specs.declared.instruction.Operation.TheVariants as operation
-use Rattle.i80_rows.specs.Codes.{pair_code, cond_code}
-use Rattle.i80_rows.specs.Rows.{Row, Word, row}
+use Rattle.i80_base.specs.declared.instruction.Instr.{Instr}
+use Rattle.i80_base.specs.declared.instruction.Instr.TheVariants.{Lxi, Stax, Ldax, Shld, Lhld, Sta, Lda, Inx}
+use Rattle.i80_base.specs.declared.instruction.Instr.TheVariants.{Dcx, Dad, Inr, Dcr, Mvi, Rotate, Mov}
+use Rattle.i80_base.specs.declared.instruction.Instr.TheVariants.{MovFromM, MovToM, Alu, AluImmediate, Jmp}
+use Rattle.i80_base.specs.declared.instruction.Instr.TheVariants.{JumpIf, Call, CallIf, RetIf, Rst, Push, Pop}
+use Rattle.i80_base.specs.declared.instruction.Reg.{Reg}
+use Rattle.i80_base.specs.declared.instruction.Register.{Register}
+use Rattle.i80_base.specs.declared.instruction.Register.TheVariants as register
+use Rattle.i80_base.specs.declared.instruction.Pair.{Pair}
+use Rattle.i80_base.specs.declared.instruction.Cond.{Cond}
+use Rattle.i80_base.specs.declared.instruction.Operation.{Operation}
+use Rattle.i80_base.specs.declared.instruction.Operation.TheVariants as operation
+use Rattle.i80_base.specs.Codes.{pair_code, cond_code}
+use Rattle.i80_base.specs.Rows.{Row, Word, row}
 use Rattle.i80_rows.specs.Encoding.{Encodes, IsOperand, encoding_of}
 use Rattle.i80_rows.proofs.Each.{each_reg, each_register, each_pair, each_index, each_stack, each_cond}
 use Rattle.i80_rows.proofs.Each.{each_operation, each_rotation, each_vector}

@@ -1,10 +1,6 @@
-pub mod Tables
-pub mod FlagLemmas
-pub mod ArithmeticLemmas
 pub mod Each
 pub mod Encoded
 pub mod OnlyEncoding
 pub mod DecodeLemmas
-pub mod TableLemmas
 pub mod RowLemmas
 pub mod AliasLemmas

@@ -4,10 +4,10 @@ use Rattle.std.proofs.Common.{refl, sym, ap, subst, ◌∙◌, arith}
 use Rattle.std.specs.List.{All}
 use Rattle.std.proofs.lemmas.Bool.{cases_lt}
 use Rattle.std.proofs.lemmas.List.{get_or_past}
-use Rattle.i80_rows.specs.declared.instruction.Instr.{Instr}
-use Rattle.i80_rows.specs.Rows.{Row, Undefined, Alone, Byte, Word, row, rows}
+use Rattle.i80_base.specs.declared.instruction.Instr.{Instr}
+use Rattle.i80_base.specs.Rows.{Row, Undefined, Alone, Byte, Word, row, rows}
 use Rattle.i80_rows.specs.Encoding.{Encodes, IsOperand, with_word, encoding_of}
-use Rattle.i80_rows.proofs.Tables.{agree}
+use Rattle.i80_base.proofs.Tables.{agree}
 use Rattle.i80_rows.proofs.Encoded.{encoded}
 
 -- the encoding of what a row holds, with this operand

@@ -3,9 +3,9 @@ use Rattle.std.proofs.Common.{◌≡◌, ℕ, ◌<◌, refl}
 use Rattle.std.specs.Prelude.{slice_index_or}
 use Rattle.i80_rows.specs.declared.decoding.rows.TheConstants.{ROWS}
 use Rattle.i80_rows.specs.declared.decoding.rows.Row.TheVariants as held
-use Rattle.i80_rows.specs.Rows.{row}
+use Rattle.i80_base.specs.Rows.{row}
 use Rattle.i80_rows.specs.TableRows.{row_of}
-use Rattle.i80_rows.proofs.Tables.{agree}
+use Rattle.i80_base.proofs.Tables.{agree}
 
 pub row_held : (opcode : ℕ) → opcode < 256
     → row_of (slice_index_or ROWS opcode held.Undefined) ≡ row opcode

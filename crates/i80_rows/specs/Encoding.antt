@@ -1,16 +1,16 @@
 -- Which bytes are the encoding of an instruction: by the table of rows, and as numbers.
 use Rattle.std.specs.Prelude.{◌≡◌, ℕ, ◌+◌, ◌*◌, ◌/◌, ◌%◌, List, [], ◌∷◌, ◌++◌, length, Result, Ok}
-use Rattle.i80_rows.specs.declared.instruction.Instr.{Instr}
-use Rattle.i80_rows.specs.declared.instruction.Instr.TheVariants.{Nop, Lxi, Stax, Ldax, Shld, Lhld, Sta, Lda}
-use Rattle.i80_rows.specs.declared.instruction.Instr.TheVariants.{Inx, Dcx, Dad, Inr, Dcr, Mvi, Rotate, Daa}
-use Rattle.i80_rows.specs.declared.instruction.Instr.TheVariants.{Cma, Stc, Cmc, Mov, MovFromM, MovToM, Hlt}
-use Rattle.i80_rows.specs.declared.instruction.Instr.TheVariants.{Alu, AluImmediate, Jmp, JumpIf, Call}
-use Rattle.i80_rows.specs.declared.instruction.Instr.TheVariants.{CallIf, Ret, RetIf, Rst, Push, Pop, Xthl}
-use Rattle.i80_rows.specs.declared.instruction.Instr.TheVariants.{Xchg, Pchl, Sphl, Out, In, Di, Ei}
-use Rattle.i80_rows.specs.declared.instruction.DecodeFault.{DecodeFault}
-use Rattle.i80_rows.specs.Codes.{reg_of, reg_code, pair_code, stack_pair_code, index_pair_code, cond_code}
-use Rattle.i80_rows.specs.Codes.{operation_code, rotation_code, vector_code}
-use Rattle.i80_rows.specs.Rows.{Row, Alone, Byte, Word, row}
+use Rattle.i80_base.specs.declared.instruction.Instr.{Instr}
+use Rattle.i80_base.specs.declared.instruction.Instr.TheVariants.{Nop, Lxi, Stax, Ldax, Shld, Lhld, Sta, Lda}
+use Rattle.i80_base.specs.declared.instruction.Instr.TheVariants.{Inx, Dcx, Dad, Inr, Dcr, Mvi, Rotate, Daa}
+use Rattle.i80_base.specs.declared.instruction.Instr.TheVariants.{Cma, Stc, Cmc, Mov, MovFromM, MovToM, Hlt}
+use Rattle.i80_base.specs.declared.instruction.Instr.TheVariants.{Alu, AluImmediate, Jmp, JumpIf, Call}
+use Rattle.i80_base.specs.declared.instruction.Instr.TheVariants.{CallIf, Ret, RetIf, Rst, Push, Pop, Xthl}
+use Rattle.i80_base.specs.declared.instruction.Instr.TheVariants.{Xchg, Pchl, Sphl, Out, In, Di, Ei}
+use Rattle.i80_base.specs.declared.instruction.DecodeFault.{DecodeFault}
+use Rattle.i80_base.specs.Codes.{reg_of, reg_code, pair_code, stack_pair_code, index_pair_code, cond_code}
+use Rattle.i80_base.specs.Codes.{operation_code, rotation_code, vector_code}
+use Rattle.i80_base.specs.Rows.{Row, Alone, Byte, Word, row}
 
 -- ---- by the table
 

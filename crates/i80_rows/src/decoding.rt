@@ -1,15 +1,15 @@
 //! Reading an instruction from bytes, by the table of 256 rows and the board's list of aliases.
 ghost use Rattle.std.specs.Prelude.{◌≡◌, take, IfOk};
-ghost use Rattle.i80_rows.specs.Rows.{Byte, Word, first_instruction, read_row};
-ghost use Rattle.i80_rows.specs.AliasRows.{read_on};
-ghost use Rattle.i80_rows.specs.Instructions.{byte_instruction, word_instruction};
+ghost use Rattle.i80_base.specs.Rows.{Byte, Word, first_instruction, read_row};
+ghost use Rattle.i80_base.specs.AliasRows.{read_on};
+ghost use Rattle.i80_base.specs.Instructions.{byte_instruction, word_instruction};
 ghost use Rattle.i80_rows.specs.Encoding.{Encodes, ReadsEncoded};
 
 mod rows;
 
-use crate::board::Board;
 use crate::decoding::rows::{Row, board_row_at};
-use crate::instruction::{ByteOperation, DecodeFault, Instr, WordOperation};
+use i80_base::board::Board;
+use i80_base::instruction::{ByteOperation, DecodeFault, Instr, WordOperation};
 
 /// The instruction that the bytes begin with, and its length of 1 to 3 bytes.
 pub fn decode(bytes: &[u8]) -> Result<(Instr, u8), DecodeFault>

@@ -1,11 +1,11 @@
 //! Writing an instruction as bytes, opcode first and words low byte first.
 ghost use Rattle.std.specs.Prelude.{◌≡◌, ◌<◌, ◌≤◌, ◌∷◌, [], length};
-ghost use Rattle.i80_rows.specs.Codes.{reg_of, reg_code, pair_code, stack_pair_code, cond_code};
-ghost use Rattle.i80_rows.specs.Codes.{operation_code, rotation_code, vector_code, index_pair_code};
+ghost use Rattle.i80_base.specs.Codes.{reg_of, reg_code, pair_code, stack_pair_code, cond_code};
+ghost use Rattle.i80_base.specs.Codes.{operation_code, rotation_code, index_pair_code};
 ghost use Rattle.i80_rows.specs.Encoding.{Encodes, with_word, encoding_of};
 
-use crate::instruction::{
-    Cond, IndexPair, Instr, Operation, Pair, Reg, Register, Rotation, StackPair, Vector,
+use i80_base::instruction::{
+    Cond, IndexPair, Instr, Operation, Pair, Reg, Register, Rotation, StackPair,
 };
 use std::marker::Model;
 
@@ -163,25 +163,6 @@ fn rotation_code(rotation: Rotation) -> u8
         Rotation::Rrc => 1,
         Rotation::Ral => 2,
         Rotation::Rar => 3,
-    }
-}
-
-impl Vector {
-    /// The n of RST n.
-    pub fn number(self) -> u8
-        ensures code { result ≡ vector_code self }
-        ensures few { result < 8 }
-    {
-        match self {
-            Vector::V0 => 0,
-            Vector::V1 => 1,
-            Vector::V2 => 2,
-            Vector::V3 => 3,
-            Vector::V4 => 4,
-            Vector::V5 => 5,
-            Vector::V6 => 6,
-            Vector::V7 => 7,
-        }
     }
 }
 

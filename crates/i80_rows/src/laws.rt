@@ -1,7 +1,7 @@
 //! Laws of the definitions.
 ghost use Rattle.std.specs.Prelude.{◌≡◌, ◌<◌, ◌↔◌, ℕ, List};
 ghost use Rattle.std.specs.List.{All};
-ghost use Rattle.i80_rows.specs.declared.instruction.Instr.{Instr};
+ghost use Rattle.i80_base.specs.declared.instruction.Instr.{Instr};
 ghost use Rattle.i80_rows.specs.Encoding.{Encodes, encoding_of};
 
 /// An instruction has exactly one encoding: the bytes that `encoding_of` computes encode it by the

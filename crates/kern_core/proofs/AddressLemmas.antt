@@ -5,7 +5,7 @@ use Rattle.std.proofs.Common.{ap, subst, inl, inr, if◌then◌else◌, ◌==◌
 use Rattle.std.specs.Prelude.{codes}
 use Rattle.std.specs.List.{AllByRecursion, starts_with, list_any}
 use Rattle.base_text.specs.Bytes.{Bytes}
-use Rattle.i80_exec.specs.declared.ports.PortOperation.{PortOperation}
+use Rattle.i80_base.specs.declared.ports.PortOperation.{PortOperation}
 use Rattle.i80_devs.specs.Console.{written_to_console, wants_line}
 use Rattle.lab_core.specs.declared.answer.SliceOutcome.{SliceOutcome}
 use Rattle.lab_core.specs.declared.answer.SliceOutcome.TheVariants as outcome

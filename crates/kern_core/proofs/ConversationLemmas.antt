@@ -12,7 +12,7 @@ use Rattle.std.proofs.lemmas.List.Elements.{filter_map-append}
 use Rattle.std.proofs.lemmas.List.Sums.{sum_by-append}
 use Rattle.std.proofs.lemmas.Slice.Eq.{bytes_eq-Decides}
 use Rattle.base_text.specs.Bytes.{Bytes}
-use Rattle.i80_exec.specs.declared.ports.PortOperation.{PortOperation}
+use Rattle.i80_base.specs.declared.ports.PortOperation.{PortOperation}
 use Rattle.i80_devs.specs.Console.{written_to_console, wants_line}
 use Rattle.lab_core.specs.declared.answer.End.{End}
 use Rattle.lab_core.specs.declared.answer.SliceOutcome.{SliceOutcome}

@@ -7,7 +7,7 @@ use Rattle.std.specs.Prelude.{option_to_list, codes}
 use Rattle.std.specs.List.{AllByRecursion, starts_with, cons_option}
 use Rattle.std.proofs.lemmas.List.Elements.{filter_map-append}
 use Rattle.base_text.specs.Bytes.{Bytes}
-use Rattle.i80_exec.specs.declared.ports.PortOperation.{PortOperation}
+use Rattle.i80_base.specs.declared.ports.PortOperation.{PortOperation}
 use Rattle.lab_core.specs.Board.{Board}
 use Rattle.lab_core.specs.declared.answer.End.{End}
 use Rattle.lab_core.specs.declared.answer.SliceOutcome.{SliceOutcome}

@@ -4,7 +4,7 @@ use Rattle.std.proofs.Common.{ap, filter_map}
 use Rattle.std.proofs.lemmas.List.Elements.{filter_map-append}
 use Rattle.std.specs.List.{list_any, cons_option}
 use Rattle.base_text.specs.Bytes.{Bytes}
-use Rattle.i80_exec.specs.declared.ports.PortOperation.{PortOperation}
+use Rattle.i80_base.specs.declared.ports.PortOperation.{PortOperation}
 use Rattle.i80_devs.specs.Console.{written_to_console, wants_line}
 use Rattle.lab_core.specs.declared.answer.SliceOutcome.{SliceOutcome}
 use Rattle.kern_peers.specs.Connections.{Connections}

@@ -4,7 +4,7 @@ use Rattle.std.proofs.Common.{refl, sym, ap, filter_map, if◌then◌else◌, Ok
 use Rattle.std.specs.Prelude.{option_to_list, codes}
 use Rattle.std.specs.List.{starts_with, cons_option}
 use Rattle.std.proofs.lemmas.List.Elements.{filter_map-append}
-use Rattle.i80_exec.specs.declared.ports.PortOperation.{PortOperation}
+use Rattle.i80_base.specs.declared.ports.PortOperation.{PortOperation}
 use Rattle.lab_core.specs.declared.answer.End.{End}
 use Rattle.lab_core.specs.declared.answer.End.TheVariants as end
 use Rattle.lab_core.specs.declared.answer.SliceOutcome.{SliceOutcome}

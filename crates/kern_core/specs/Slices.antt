@@ -6,7 +6,7 @@ use Rattle.lab_core.specs.declared.answer.SliceOutcome.{SliceOutcome}
 use Rattle.lab_core.specs.declared.answer.SliceOutcome.TheVariants as outcome
 use Rattle.lab_core.specs.Slices.{traffic_of}
 use Rattle.lab_core.specs.Events.{EventResult, after_start}
-use Rattle.i80_exec.specs.declared.ports.PortOperation.{PortOperation}
+use Rattle.i80_base.specs.declared.ports.PortOperation.{PortOperation}
 use Rattle.kern_post.specs.declared.post.Letter.{Letter}
 use Rattle.kern_peers.specs.Connections.{Connections}
 use Rattle.kern_exec.specs.declared.execution.Execution.{Execution}

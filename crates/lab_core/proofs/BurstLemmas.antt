@@ -3,11 +3,11 @@ use Rattle.std.proofs.Common.{◌≡◌, ℕ, zero, suc, ◌+◌, ◌-◌, ◌<�
 use Rattle.std.proofs.Common.{refl, sym, ap, ◌∙◌, subst, append_assoc, append-nil, arith, inl, inr, true}
 use Rattle.std.proofs.Common.{false, ◌&&◌, if◌then◌else◌}
 use Rattle.std.specs.Option.{is_none}
-use Rattle.i80_rows.specs.Rows.{is_undefined}
-use Rattle.i80_rows.specs.AliasRows.{row_on}
+use Rattle.i80_base.specs.Rows.{is_undefined}
+use Rattle.i80_base.specs.AliasRows.{row_on}
 use Rattle.std.proofs.lemmas.Bool.{cases_lt}
 use Rattle.std.specs.Option.{option_or, IfSome}
-use Rattle.i80_exec.specs.declared.ports.PortOperation.{PortOperation}
+use Rattle.i80_base.specs.declared.ports.PortOperation.{PortOperation}
 use Rattle.i80_exec.specs.State.{MachineState, byte_at}
 use Rattle.i80_exec.specs.Step.{operation_list}
 use Rattle.lab_core.specs.declared.answer.SliceOutcome.{SliceOutcome}

@@ -2,7 +2,7 @@
 use Rattle.std.proofs.Common.{◌≡◌, ◌⊎◌, ℕ, List, ◌++◌, true, false, Some, None, sym, ap, ◌∙◌, subst, inl, inr}
 use Rattle.std.specs.Option.{IsSome}
 use Rattle.i80_exec.specs.declared.registers.Stepped.{Stepped}
-use Rattle.i80_exec.specs.declared.ports.PortOperation.{PortOperation}
+use Rattle.i80_base.specs.declared.ports.PortOperation.{PortOperation}
 use Rattle.i80_exec.specs.State.{MachineState}
 use Rattle.i80_exec.specs.declared.registers.Kind.{Kind}
 use Rattle.i80_exec.specs.Step.{operation_list, answer_of, is_halt, Settles}

@@ -1,7 +1,7 @@
 -- The reply of a lab to an event, by the function.
 use Rattle.std.proofs.Common.{◌≡◌, ◌≢◌, ℕ, zero, suc, ◌≤◌, length, Result, Ok, Err, IfOk, subst, arith}
 use Rattle.std.proofs.Common.{length-append, Option, Some, None, refl}
-use Rattle.i80_exec.specs.declared.ports.PortOperation.{PortOperation}
+use Rattle.i80_base.specs.declared.ports.PortOperation.{PortOperation}
 use Rattle.i80_exec.specs.Step.{operation_list}
 use Rattle.lab_core.specs.declared.run_state.RunState.{RunState}
 use Rattle.lab_core.specs.declared.run_state.RunState.TheVariants.{NoRun, Running, Stopped}

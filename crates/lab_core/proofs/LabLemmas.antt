@@ -7,7 +7,7 @@ use Rattle.lab_frames.specs.Live.{live}
 use Rattle.lab_frames.specs.Frames.{AtLeast}
 use Rattle.lab_core.specs.Stops.{since}
 use Rattle.lab_core.proofs.EventLemmas.{loaded-regs}
-use Rattle.i80_rows.specs.declared.board.Board.{Board as BoardOption}
+use Rattle.i80_base.specs.declared.board.Board.{Board as BoardOption}
 use Rattle.i80_exec.specs.State.{MachineState, with_board, with_pc, with_image_bytes as with_image}
 use Rattle.i80_devs.specs.Past as devices
 use Rattle.asm_build.specs.Reading.{Entries}
@@ -16,7 +16,7 @@ use Rattle.lab_image.specs.declared.spans.Span.{Span}
 use Rattle.lab_image.specs.Loads as origins
 use Rattle.lab_image.specs.Breakpoints.{BreakpointState}
 use Rattle.lab_image.specs.Breakpoints as breakpoints
-use Rattle.i80_exec.specs.declared.ports.PortOperation.{PortOperation}
+use Rattle.i80_base.specs.declared.ports.PortOperation.{PortOperation}
 use Rattle.lab_image.specs.declared.sources.Source.{Source}
 use Rattle.lab_image.specs.Sources.{place_of, kept_at, source_at}
 use Rattle.lab_image.specs.Breakpoints.{with_lines}

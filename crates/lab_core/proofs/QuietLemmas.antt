@@ -10,8 +10,8 @@ use Rattle.std.specs.List.{filter}
 use Rattle.std.specs.Option.{option_or, IsSome, is_none}
 use Rattle.i80_exec.specs.declared.registers.Stepped.{Stepped}
 use Rattle.i80_exec.specs.declared.registers.Stepped.TheVariants.{Done}
-use Rattle.i80_exec.specs.declared.ports.PortOperation.{PortOperation}
-use Rattle.i80_exec.specs.declared.ports.PortOperation.TheVariants.{Out}
+use Rattle.i80_base.specs.declared.ports.PortOperation.{PortOperation}
+use Rattle.i80_base.specs.declared.ports.PortOperation.TheVariants.{Out}
 use Rattle.i80_exec.specs.State.{MachineState}
 use Rattle.i80_exec.specs.declared.registers.Kind.{Kind}
 use Rattle.i80_exec.specs.declared.registers.Kind.TheVariants as kind

@@ -2,8 +2,8 @@
 use Rattle.std.proofs.Common.{◌≡◌, ℕ, List, [], Bool, true, false, ◌&&◌, Option, Some, None}
 use Rattle.std.proofs.Common.{refl, sym, subst}
 use Rattle.std.specs.Option.{is_none, IfSome}
-use Rattle.i80_rows.specs.Rows.{is_undefined}
-use Rattle.i80_rows.specs.AliasRows.{row_on}
+use Rattle.i80_base.specs.Rows.{is_undefined}
+use Rattle.i80_base.specs.AliasRows.{row_on}
 use Rattle.i80_exec.specs.declared.registers.Interrupts.{Interrupts}
 use Rattle.i80_exec.specs.declared.registers.Interrupts.TheVariants.{Off, Arming, On}
 use Rattle.i80_exec.specs.declared.registers.Stepped.{Stepped}

@@ -1,7 +1,7 @@
 -- The answer to each event, and the board after it.
 use Rattle.std.specs.Prelude.{◌≡◌, ℕ, ◌≤◌, List, [], ◌∷◌, ◌++◌, length, map, Bool, true, false, ◌&&◌, Option}
 use Rattle.std.specs.Prelude.{Some, None, Result, Ok, Err, is_some, nat_lt, nat_le, if◌then◌else◌}
-use Rattle.i80_rows.specs.declared.board.Board.{Board as BoardOption}
+use Rattle.i80_base.specs.declared.board.Board.{Board as BoardOption}
 use Rattle.i80_exec.specs.State.{MachineState, with_board, with_pc, power_on, with_image_bytes as with_image}
 use Rattle.i80_devs.specs.Past.{Operation, Typed, Switches, Press, panel_after}
 use Rattle.asm_syntax.specs.declared.fault.AsmFault.TheVariants.{At}

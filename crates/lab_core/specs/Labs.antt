@@ -4,7 +4,7 @@ use Rattle.std.specs.Prelude.{false, Option, Some, None, IsSome, is_some, unwrap
 use Rattle.std.specs.List.{filter}
 use Rattle.std.specs.Option.{IfSome}
 use Rattle.i80_exec.specs.State.{MachineState, byte_at}
-use Rattle.i80_exec.specs.declared.ports.PortOperation.{PortOperation}
+use Rattle.i80_base.specs.declared.ports.PortOperation.{PortOperation}
 use Rattle.i80_exec.specs.declared.registers.Stepped.{Stepped}
 use Rattle.i80_exec.specs.declared.registers.Stepped.TheVariants.{Undefined}
 use Rattle.i80_exec.specs.declared.registers.Kind.{Kind}

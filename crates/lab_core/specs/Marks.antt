@@ -3,7 +3,7 @@ use Rattle.std.specs.Prelude.{◌≡◌, ◌≢◌, ◌≤◌, ◌<◌, ℕ, zer
 use Rattle.std.specs.Prelude.{not, ◌&&◌}
 use Rattle.std.specs.Prelude.{◌||◌, ◌==◌, nat_lt, Result, Err, IfOk, length, if◌then◌else◌}
 use Rattle.std.specs.List.{list_any}
-use Rattle.i80_exec.specs.declared.ports.PortOperation.{PortOperation}
+use Rattle.i80_base.specs.declared.ports.PortOperation.{PortOperation}
 use Rattle.i80_exec.specs.declared.registers.Registers.{Registers}
 use Rattle.i80_exec.specs.State.{MachineState, byte_at}
 use Rattle.lab_image.specs.Addresses.{has, IsEmpty}

@@ -1,6 +1,6 @@
 -- Where a slice ends, as a function.
 use Rattle.std.specs.Prelude.{ℕ, zero, suc, ◌+◌, List, [], Option, Some, None, unwrap_or}
-use Rattle.i80_exec.specs.declared.ports.PortOperation.{PortOperation}
+use Rattle.i80_base.specs.declared.ports.PortOperation.{PortOperation}
 use Rattle.lab_core.specs.declared.answer.SliceOutcome.{SliceOutcome}
 use Rattle.lab_core.specs.declared.answer.SliceOutcome.TheVariants.{More}
 use Rattle.lab_core.specs.declared.answer.Answer.{Answer}

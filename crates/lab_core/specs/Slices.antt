@@ -3,11 +3,11 @@ use Rattle.std.specs.Prelude.{◌≡◌, ℕ, zero, suc, ◌<◌, ◌≤◌, Lis
 use Rattle.std.specs.Prelude.{Some, None, is_none, unwrap_or, if◌then◌else◌}
 use Rattle.std.specs.List.{fold}
 use Rattle.std.specs.Option.{option_or}
-use Rattle.i80_rows.specs.Rows.{is_undefined}
-use Rattle.i80_rows.specs.AliasRows.{row_on}
+use Rattle.i80_base.specs.Rows.{is_undefined}
+use Rattle.i80_base.specs.AliasRows.{row_on}
 use Rattle.i80_exec.specs.declared.registers.Interrupts.{Interrupts}
 use Rattle.i80_exec.specs.declared.registers.Interrupts.TheVariants.{Off, Arming, On}
-use Rattle.i80_exec.specs.declared.ports.PortOperation.{PortOperation}
+use Rattle.i80_base.specs.declared.ports.PortOperation.{PortOperation}
 use Rattle.i80_exec.specs.State.{byte_at}
 use Rattle.i80_exec.specs.Step.{operation_list, is_halt}
 use Rattle.i80_devs.specs.Past.{panel_after}

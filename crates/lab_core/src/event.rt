@@ -2,7 +2,7 @@
 
 use base_text::sequence::{Bytes, Sequence};
 use base_text::text::Text;
-use i80_rows::board::Board;
+use i80_base::board::Board;
 use lab_shown::step::{Granularity, StepKind};
 use lab_views::view::View;
 

@@ -3,8 +3,8 @@ use Rattle.std.proofs.Common.{◌≡◌, List, ◌++◌, ◌∷◌, [], map, Opt
 use Rattle.std.proofs.Common.{refl, subst, drop, length, ◌==◌, ◌≤◌, arith}
 use Rattle.std.proofs.lemmas.Bool.{cond_both}
 use Rattle.i80_exec.specs.declared.registers.Stepped.{Stepped}
-use Rattle.i80_exec.specs.declared.ports.PortOperation.{PortOperation}
-use Rattle.i80_exec.specs.declared.ports.PortOperation.TheVariants.{In, Out}
+use Rattle.i80_base.specs.declared.ports.PortOperation.{PortOperation}
+use Rattle.i80_base.specs.declared.ports.PortOperation.TheVariants.{In, Out}
 use Rattle.i80_exec.specs.State.{MachineState}
 use Rattle.i80_exec.specs.Effect.{Outcome}
 use Rattle.i80_exec.specs.Step.{instruction, operation_list, state_after, IsOutcome, Performs}

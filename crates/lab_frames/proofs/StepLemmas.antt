@@ -1,11 +1,11 @@
 -- What an answer tells of SP, for every instruction and acceptance of the machine.
 use Rattle.std.proofs.Common.{◌≡◌, ℕ, ◌+◌, ◌*◌, List, Some, refl, sym, subst, inl, inr, ◌⊎◌}
 use Rattle.std.proofs.lemmas.Bool.{cond_both}
-use Rattle.i80_rows.specs.declared.instruction.Instr.{Instr}
-use Rattle.i80_rows.specs.declared.instruction.Instr.TheVariants.{Hlt, JumpIf, Call, CallIf, Ret, RetIf, Rst}
-use Rattle.i80_rows.specs.Codes.{vector_code}
-use Rattle.i80_rows.specs.Rows.{Row, Undefined, Alone, Byte, Word}
-use Rattle.i80_rows.specs.AliasRows.{row_on}
+use Rattle.i80_base.specs.declared.instruction.Instr.{Instr}
+use Rattle.i80_base.specs.declared.instruction.Instr.TheVariants.{Hlt, JumpIf, Call, CallIf, Ret, RetIf, Rst}
+use Rattle.i80_base.specs.Codes.{vector_code}
+use Rattle.i80_base.specs.Rows.{Row, Undefined, Alone, Byte, Word}
+use Rattle.i80_base.specs.AliasRows.{row_on}
 use Rattle.i80_exec.specs.declared.registers.Interrupts.{Interrupts}
 use Rattle.i80_exec.specs.declared.registers.Interrupts.TheVariants.{Off, Arming, On}
 use Rattle.i80_exec.specs.declared.registers.Stepped.{Stepped}

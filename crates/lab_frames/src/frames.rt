@@ -6,8 +6,8 @@ ghost use Rattle.lab_frames.specs.Frames.{survivors, FollowsStep, Falls, AtLeast
 ghost use Rattle.lab_frames.specs.Frames.{CallsAt, is_from_above, frame_floor_of};
 
 use crate::frame::Frame;
+use i80_base::memory::MEMORY_SIZE;
 use i80_exec::registers::Stepped;
-use i80_rows::memory::MEMORY_SIZE;
 use std::alloc::{AllocError, Global};
 use std::marker::Model;
 

@@ -6,7 +6,7 @@ ghost use Rattle.lab_image.specs.Spans.{AreSpans, EndBy, between, origin_in, ove
 
 use crate::origin::Origin;
 use asm_build::built::Row;
-use i80_rows::memory::MEMORY_SIZE;
+use i80_base::memory::MEMORY_SIZE;
 use std::alloc::{AllocError, Global};
 
 /// The number of addresses.

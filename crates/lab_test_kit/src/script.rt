@@ -6,7 +6,7 @@ use crate::ask::{Ask, view};
 use crate::told::{put_byte, put_newest, put_registers, put_told};
 use base_text::sequence::{Bytes, Sequence};
 use base_text::text::Text;
-use i80_rows::board::Board;
+use i80_base::board::Board;
 use lab_core::event::{Event, StepRequest};
 use lab_core::lab::Lab;
 use lab_shown::step::{Granularity, StepKind};

@@ -1,5 +1,5 @@
 //! What is answered and what is seen of a board, as lines of text.
-use i80_exec::ports::PortOperation;
+use i80_base::ports::PortOperation;
 use i80_exec::registers::Interrupts;
 use lab_core::answer::{Answer, End, SliceOutcome, Stop};
 use lab_core::fault::EventFault;

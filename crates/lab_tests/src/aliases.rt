@@ -1,5 +1,5 @@
 //! Boards on which the undefined opcodes act, and boards on which they don't.
-use i80_rows::board::Board::{Aliases, Strict};
+use i80_base::board::Board::{Aliases, Strict};
 use lab_shown::step::StepKind::{Out, Over};
 use lab_test_kit::ask::Ask::{Code, Frames, Source};
 use lab_test_kit::script::Step::{

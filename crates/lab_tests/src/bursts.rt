@@ -1,8 +1,8 @@
 //! Runs in slices of several lengths, beside the same run in slices of one step.
 ghost use Rattle.std.specs.Prelude.{◌≤◌};
 
+use i80_base::ports::PortOperation;
 use i80_devs::traffic::Traffic;
-use i80_exec::ports::PortOperation;
 use i80_exec::registers::{Interrupts, Registers};
 use lab_core::answer::{Answer, End, SliceOutcome, Stop};
 use lab_core::event::Event;

@@ -1,7 +1,7 @@
 //! Calls as tests write them, in turn on a new board.
 
+use i80_base::flags::Flags;
 use i80_exec::registers::{Interrupts, Registers};
-use i80_rows::flags::Flags;
 use lab_core::lab::Lab;
 use lab_core::lab::moments::Moment;
 use lab_core::marks::Marks;

@@ -1,6 +1,6 @@
 -- A change by hand: a place gets a value, and nothing else changes.
 use Rattle.std.specs.Prelude.{ℕ}
-use Rattle.i80_rows.specs.declared.instruction.Reg.TheVariants as reg
+use Rattle.i80_base.specs.declared.instruction.Reg.TheVariants as reg
 use Rattle.i80_exec.specs.State.{MachineState, with_byte, with_pc, with_sp}
 use Rattle.i80_exec.specs.State as state
 use Rattle.lab_shown.specs.declared.place.Place.{Place}

@@ -12,10 +12,10 @@ use asm_build::symbols::Symbols;
 use base_text::hexadecimal;
 use base_text::sequence::Sequence;
 use base_text::text::Text;
+use i80_base::memory::MEMORY_SIZE;
 use i80_devs::devices::Devices;
 use i80_exec::machine::Machine;
 use i80_exec::registers::Registers;
-use i80_rows::memory::MEMORY_SIZE;
 use lab_shown::shown::Variable;
 use std::alloc::{AllocError, Global};
 

@@ -1,6 +1,6 @@
 //! What is done to the boards: each list on a new one.
 
-use i80_rows::board::Board::{Aliases, Strict};
+use i80_base::board::Board::{Aliases, Strict};
 use lab_shown::step::StepKind::{In, Out, Over};
 use lab_test_kit::ask::Ask::{Code, Frames, Info, Scopes, Source, Variables};
 use lab_test_kit::script::Step;

@@ -1,24 +1,24 @@
 //! The 256 opcodes, each with an arm that names its registers.
 ghost use Rattle.std.specs.Prelude.{◌≡◌, ◌≢◌, ◌+◌, ◌*◌, ◌<◌, ◌≤◌, ◌⊎◌, None, true, false};
-ghost use Rattle.i80_rows.specs.Rows.{row, is_undefined, Alone, Byte, Word};
-ghost use Rattle.i80_rows.specs.AliasRows.{acts, alias_row};
-ghost use Rattle.i80_rows.specs.declared.instruction.Instr.TheVariants.{Nop, Lxi, Inx, Dcx, Dad, Inr, Dcr};
-ghost use Rattle.i80_rows.specs.declared.instruction.Instr.TheVariants.{Mvi, Rotate, AluImmediate, JumpIf};
-ghost use Rattle.i80_rows.specs.declared.instruction.Instr.TheVariants.{CallIf, RetIf, Push, Pop};
+ghost use Rattle.i80_base.specs.Rows.{row, is_undefined, Alone, Byte, Word};
+ghost use Rattle.i80_base.specs.AliasRows.{acts, alias_row};
+ghost use Rattle.i80_base.specs.declared.instruction.Instr.TheVariants.{Nop, Lxi, Inx, Dcx, Dad, Inr, Dcr};
+ghost use Rattle.i80_base.specs.declared.instruction.Instr.TheVariants.{Mvi, Rotate, AluImmediate, JumpIf};
+ghost use Rattle.i80_base.specs.declared.instruction.Instr.TheVariants.{CallIf, RetIf, Push, Pop};
 ghost use Rattle.i80_exec.specs.State.{modulo_65536, byte_at, with_byte, get, with_reg, get_pair};
 ghost use Rattle.i80_exec.specs.State.{with_pc, with_interrupts};
 ghost use Rattle.i80_exec.specs.Effect.{after_operation, to_reg};
 ghost use Rattle.i80_exec.specs.Opcodes.{reg_at, operation_at};
 ghost use Rattle.i80_exec.specs.Step.{by_row, by_opcode, interrupts_after, answer_of, is_arming};
 ghost use Rattle.i80_exec.specs.Step.{devices_by, IsOutcome, IsStepOfKind, IsAtOpcode, Executes};
-ghost use Rattle.i80_exec.specs.Step.{Performs, Settles, is_moved, row_moves_sp};
+ghost use Rattle.i80_exec.specs.Step.{Performs, Settles, is_moved, row_moves_sp, IsInGroup, IsStepByRow};
 
 use crate::machine::{Machine, reg_at};
-use crate::ports::Ports;
 use crate::registers::{Interrupts, Kind};
-use i80_rows::arithmetic::{AluResult, daa, dcr, inr, rotate};
-use i80_rows::board::Board;
-use i80_rows::instruction::{Cond, Operation, Pair, Reg, Rotation, StackPair};
+use i80_base::arithmetic::{AluResult, daa, dcr, inr, rotate};
+use i80_base::board::Board;
+use i80_base::instruction::{Cond, Operation, Pair, Reg, Rotation, StackPair};
+use i80_base::ports::Ports;
 
 macro_rules! arm {
     (nop $m:ident $opcode:ident) => {{ $m.advance(1); Kind::Quiet }};
@@ -203,7 +203,7 @@ impl Machine {
 
     /// Executes one of the twelve opcodes that the table leaves undefined, on a board where they act.
     #[inline(always)]
-    #[tactic(auto, unfolding(i80_rows::specs::AliasRows::alias_row), using(crate::proofs::AliasLemmas::nop))]
+    #[tactic(auto, unfolding(i80_base::specs::AliasRows::alias_row), using(crate::proofs::AliasLemmas::nop))]
     fn step_alias(&mut self, opcode: u8) -> Kind
         requires opcode { opcode ≡ byte_at self.old self.old.regs.pc }
         requires settled { is_arming self.old.regs.interrupts ≡ false }
@@ -223,7 +223,7 @@ impl Machine {
 
     /// OUT, which is the instruction at PC.
     #[inline(always)]
-    #[tactic(auto, unfolding(i80_rows::specs::Rows::row))]
+    #[tactic(auto, unfolding(i80_base::specs::Rows::row))]
     fn step_out<P: Ports>(&mut self, opcode: u8, ports: &mut P) -> Kind
         requires opcode { opcode ≡ byte_at self.old self.old.regs.pc }
         requires settled { is_arming self.old.regs.interrupts ≡ false }
@@ -241,7 +241,7 @@ impl Machine {
 
     /// IN, which is the instruction at PC.
     #[inline(always)]
-    #[tactic(auto, unfolding(i80_rows::specs::Rows::row))]
+    #[tactic(auto, unfolding(i80_base::specs::Rows::row))]
     fn step_in<P: Ports>(&mut self, opcode: u8, ports: &mut P) -> Kind
         requires opcode { opcode ≡ byte_at self.old self.old.regs.pc }
         requires settled { is_arming self.old.regs.interrupts ≡ false }
@@ -262,13 +262,12 @@ impl Machine {
     #[inline(always)]
     fn step_in_group<P: Ports>(&mut self, opcode: u8, ports: &mut P) -> Kind
         requires { IsAtOpcode opcode self.old (P.spare ports.old) }
-        ensures outcome { let devices = devices_by P.answer P.after P.operations P.state P.spare in
+        ensures { let devices = devices_by P.answer P.after P.operations P.state P.spare in
             let outcome = by_row (row opcode) (devices ports.old).input self.old in
-            (Executes (row opcode) self.old self.new result × (ports.new ≡ ports.old))
+            IsStepByRow result (row opcode) self.old self.new
+            ((Executes (row opcode) self.old self.new result × (ports.new ≡ ports.old))
             ⊎ (IsOutcome outcome self.new (answer_of result self.new)
-            × Performs outcome (devices ports.old) (devices ports.new)) }
-        ensures settles { Settles result self.old self.new }
-        ensures moved { is_moved result ≡ row_moves_sp (row opcode) }
+            × Performs outcome (devices ports.old) (devices ports.new))) }
     {
         groups! { self ports opcode;
             0x00 0x01 0x02 0x03 0x04 0x05 0x06 0x07 0x08 0x09 0x0a 0x0b 0x0c 0x0d 0x0e 0x0f => step_00;
@@ -517,11 +516,9 @@ impl Machine {
     }
 
     #[inline]
-    #[tactic(auto, unfolding(i80_rows::specs::Rows::row))]
+    #[tactic(auto, unfolding(i80_base::specs::Rows::row))]
     fn step_00(&mut self, opcode: u8) -> Kind
-        requires opcode { opcode ≡ byte_at self.old self.old.regs.pc }
-        requires settled { is_arming self.old.regs.interrupts ≡ false }
-        requires high { opcode < 32 }
+        requires { IsInGroup 0 32 opcode self.old }
         ensures outcome { Executes (row opcode) self.old self.new result }
         ensures settles { Settles result self.old self.new }
         ensures moved { is_moved result ≡ row_moves_sp (row opcode) }
@@ -564,12 +561,9 @@ impl Machine {
     }
 
     #[inline]
-    #[tactic(auto, unfolding(i80_rows::specs::Rows::row))]
+    #[tactic(auto, unfolding(i80_base::specs::Rows::row))]
     fn step_20(&mut self, opcode: u8) -> Kind
-        requires opcode { opcode ≡ byte_at self.old self.old.regs.pc }
-        requires settled { is_arming self.old.regs.interrupts ≡ false }
-        requires low { 32 ≤ opcode }
-        requires high { opcode < 64 }
+        requires { IsInGroup 32 64 opcode self.old }
         ensures outcome { Executes (row opcode) self.old self.new result }
         ensures settles { Settles result self.old self.new }
         ensures moved { is_moved result ≡ row_moves_sp (row opcode) }
@@ -643,10 +637,7 @@ impl Machine {
     /// MOV, whose opcode has the codes of its registers, and HLT, whose opcode would be `MOV M,M`.
     #[inline]
     fn step_40(&mut self, opcode: u8) -> Kind
-        requires opcode { opcode ≡ byte_at self.old self.old.regs.pc }
-        requires settled { is_arming self.old.regs.interrupts ≡ false }
-        requires low { 64 ≤ opcode }
-        requires high { opcode < 128 }
+        requires { IsInGroup 64 128 opcode self.old }
         ensures outcome { Executes (row opcode) self.old self.new result }
         ensures settles { Settles result self.old self.new }
         ensures moved { is_moved result ≡ row_moves_sp (row opcode) }
@@ -665,10 +656,7 @@ impl Machine {
     /// ADD to CMP, whose opcode has the codes of its operation and its register.
     #[inline]
     fn step_80(&mut self, opcode: u8) -> Kind
-        requires opcode { opcode ≡ byte_at self.old self.old.regs.pc }
-        requires settled { is_arming self.old.regs.interrupts ≡ false }
-        requires low { 128 ≤ opcode }
-        requires high { opcode < 192 }
+        requires { IsInGroup 128 192 opcode self.old }
         ensures outcome { Executes (row opcode) self.old self.new result }
         ensures settles { Settles result self.old self.new }
         ensures moved { is_moved result ≡ row_moves_sp (row opcode) }
@@ -685,12 +673,9 @@ impl Machine {
     }
 
     #[inline]
-    #[tactic(auto, unfolding(i80_rows::specs::Rows::row))]
+    #[tactic(auto, unfolding(i80_base::specs::Rows::row))]
     fn step_c0(&mut self, opcode: u8) -> Kind
-        requires opcode { opcode ≡ byte_at self.old self.old.regs.pc }
-        requires settled { is_arming self.old.regs.interrupts ≡ false }
-        requires low { 192 ≤ opcode }
-        requires high { opcode < 224 }
+        requires group { IsInGroup 192 224 opcode self.old }
         requires output { opcode ≢ 211 }
         requires input { opcode ≢ 219 }
         ensures outcome { Executes (row opcode) self.old self.new result }
@@ -733,12 +718,9 @@ impl Machine {
     }
 
     #[inline]
-    #[tactic(auto, unfolding(i80_rows::specs::Rows::row))]
+    #[tactic(auto, unfolding(i80_base::specs::Rows::row))]
     fn step_e0(&mut self, opcode: u8) -> Kind
-        requires opcode { opcode ≡ byte_at self.old self.old.regs.pc }
-        requires settled { is_arming self.old.regs.interrupts ≡ false }
-        requires low { 224 ≤ opcode }
-        requires high { opcode < 256 }
+        requires { IsInGroup 224 256 opcode self.old }
         ensures outcome { Executes (row opcode) self.old self.new result }
         ensures settles { Settles result self.old self.new }
         ensures moved { is_moved result ≡ row_moves_sp (row opcode) }

@@ -1,11 +1,11 @@
 //! The table of 256 rows: what stands at each opcode (8080 User's Manual, chapter 4 and the opcode table).
 ghost use Rattle.std.specs.Prelude.{◌≡◌};
-ghost use Rattle.i80_rows.specs.Rows.{row};
-ghost use Rattle.i80_rows.specs.AliasRows.{alias_row, row_on, undefined_on};
+ghost use Rattle.i80_base.specs.Rows.{row};
+ghost use Rattle.i80_base.specs.AliasRows.{alias_row, row_on, undefined_on};
 ghost use Rattle.i80_rows.specs.TableRows.{row_of};
 
-use crate::board::Board;
-use crate::instruction::{
+use i80_base::board::Board;
+use i80_base::instruction::{
     ByteOperation, Cond, IndexPair, Instr, Operation, Pair, Reg, Register, Rotation, StackPair,
     Vector, WordOperation,
 };
@@ -47,7 +47,7 @@ fn undefined_row_at(opcode: u8, board: Board) -> Row
     }
 }
 
-#[tactic(auto, unfolding(crate::specs::AliasRows::alias_row))]
+#[tactic(auto, unfolding(i80_base::specs::AliasRows::alias_row))]
 fn alias_at(opcode: u8) -> Row
     ensures { row_of result ≡ alias_row opcode }
 {

@@ -11,8 +11,8 @@ use crate::event::Event;
 use crate::fault::EventFault;
 use crate::lab::Lab;
 use crate::run_state::RunState;
+use i80_base::board;
 use i80_exec::machine::Machine;
-use i80_rows::board;
 use std::alloc::AllocError;
 
 fn is_out_of_memory(answer: &Result<Answer, EventFault>) -> bool

@@ -1,6 +1,6 @@
 //! Slices of a run.
 ghost use Rattle.std.specs.Prelude.{◌≡◌, ◌≤◌, List, Err, OnErr};
-ghost use Rattle.i80_exec.specs.declared.ports.PortOperation.{PortOperation};
+ghost use Rattle.i80_base.specs.declared.ports.PortOperation.{PortOperation};
 ghost use Rattle.lab_core.specs.Board.{Board};
 ghost use Rattle.lab_core.specs.Slices.{IsSlice, after_steps, traffic_of, left_by};
 ghost use Rattle.lab_core.specs.Labs.{RepresentsBoard, RepresentsDuringSlice, AppliesTo, Watches};

@@ -1,7 +1,7 @@
 use Rattle.std.proofs.Common.{◌∙◌, ◌++◌, ◌∷◌, [], ap, sym, arith, rules, get_or}
 use Rattle.std.specs.List.{filter_map}
-use Rattle.i80_exec.specs.declared.ports.PortOperation.{PortOperation}
-use Rattle.i80_exec.specs.declared.ports.PortOperation.TheVariants.{In}
+use Rattle.i80_base.specs.declared.ports.PortOperation.{PortOperation}
+use Rattle.i80_base.specs.declared.ports.PortOperation.TheVariants.{In}
 use Rattle.i80_devs.specs.Console.{written_to_console as written}
 use Rattle.i80_devs.proofs.ConsoleLemmas.{written_more}
 use Rattle.i80_devs.proofs.console.print_all.Goals as goal

@@ -1,5 +1,5 @@
 use Rattle.std.proofs.Common.{refl, ap, ◌∙◌}
-use Rattle.i80_rows.specs.Rows.{first_instruction}
+use Rattle.i80_base.specs.Rows.{first_instruction}
 use Rattle.i80_rows.proofs.DecodeLemmas.{read_found, encoded_read}
 use Rattle.i80_rows.proofs.decoding.decode.Goals as goal
 

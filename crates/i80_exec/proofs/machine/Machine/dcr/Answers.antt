@@ -1,5 +1,5 @@
 use Rattle.std.proofs.Common.{◌+◌}
-use Rattle.i80_rows.specs.declared.instruction.Instr.TheVariants.{Nop}
+use Rattle.i80_base.specs.declared.instruction.Instr.TheVariants.{Nop}
 use Rattle.i80_exec.specs.State.{modulo_65536, with_pc}
 use Rattle.i80_exec.specs.Step.{interrupts_after}
 use Rattle.i80_exec.proofs.OpcodeLemmas.{decremented}

@@ -1,6 +1,6 @@
 use Rattle.std.proofs.Common.{◌≤◌, ◌<◌, refl, arith}
 use Rattle.i80_exec.proofs.OpcodeLemmas.{never_moves, compute_row, past}
-use Rattle.i80_rows.specs.declared.instruction.Operation.TheVariants.{Sbb}
+use Rattle.i80_base.specs.declared.instruction.Operation.TheVariants.{Sbb}
 use Rattle.i80_exec.proofs.ArmingLemmas.{never_arming, operated_settles}
 use Rattle.i80_exec.proofs.machine.Machine.step_80.Goals as goal
 

@@ -1,5 +1,5 @@
 use Rattle.std.proofs.Common.{◌∙◌, sym}
-use Rattle.i80_rows.specs.AliasRows.{row_on}
+use Rattle.i80_base.specs.AliasRows.{row_on}
 use Rattle.i80_exec.specs.State.{byte_at}
 use Rattle.i80_exec.proofs.ArmingLemmas.{settled_step}
 use Rattle.i80_exec.proofs.machine.Machine.step_at_pc.Goals as goal

@@ -1,5 +1,5 @@
 use Rattle.std.proofs.Common.{◌∙◌, ap, inl, inr}
-use Rattle.i80_rows.specs.Rows.{row}
+use Rattle.i80_base.specs.Rows.{row}
 use Rattle.i80_exec.specs.Step.{row_moves_sp}
 use Rattle.i80_exec.proofs.PortLemmas.{outcome_without_port}
 use Rattle.i80_exec.proofs.machine.Machine.step_strict.Goals as goal

@@ -1,5 +1,5 @@
 use Rattle.std.proofs.Common.{◌≤◌, ◌+◌, ◌-◌, List, None}
-use Rattle.i80_exec.specs.declared.ports.PortOperation.{PortOperation}
+use Rattle.i80_base.specs.declared.ports.PortOperation.{PortOperation}
 use Rattle.lab_core.specs.Board.{Board}
 use Rattle.lab_core.specs.Slices.{reason_before_fetch}
 use Rattle.lab_core.specs.Labs.{LabState, RepresentsDuringSlice, Makes, ComputesIn, IsInBurst, LooksUp}

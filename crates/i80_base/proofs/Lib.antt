@@ -1,0 +1,4 @@
+pub mod Tables
+pub mod FlagLemmas
+pub mod ArithmeticLemmas
+pub mod TableLemmas

@@ -1,8 +1,0 @@
-use Rattle.std.proofs.Common.{◌∙◌, ap, false}
-use Rattle.i80_rows.specs.Arithmetic.{with_flags}
-use Rattle.i80_rows.proofs.ArithmeticLemmas.{xor_by_digits}
-use Rattle.i80_rows.proofs.arithmetic.alu_xor.Goals as goal
-
-pub returns : goal.returns
-returns c = c.with_result.ensures
-    ∙ ap (λ v. with_flags v false false) (xor_by_digits c.args.x c.args.y c.ranges.x.fits c.ranges.y.fits)
