@@ -8,7 +8,7 @@ use Rattle.std.specs.Str.{bytes_eq}
 use Rattle.std.proofs.lemmas.List.Folds.{Any-from_list_any, list_any-from_Any, list_any_at}
 use Rattle.std.proofs.lemmas.Slice.Eq.{bytes_eq-Decides}
 use Rattle.std.proofs.lemmas.Bool.{false≢true}
-use Rattle.indexmap.proofs.CallerLemmas.{Contains-list_any}
+use Rattle.std.proofs.lemmas.Map.Views.{Contains-from_any}
 use Rattle.asm_syntax.specs.declared.fault.FaultKind.{FaultKind}
 use Rattle.asm_syntax.specs.declared.fault.FaultKind.TheVariants as fault
 use Rattle.asm_syntax.specs.declared.statement.Label.{Label}
@@ -58,7 +58,7 @@ are_true a b h k = ap (λ c. c && b) h ∙ k
 -- ---- names
 
 among : (x : List ℕ) (names : List (List ℕ)) → is_among x names ≡ true → Contains names x
-among x names h = Contains-list_any bytes_eq (λ m n. (bytes_eq-Decides m n).0) names x h
+among x names h = Contains-from_any {eq = bytes_eq} (λ m n. (bytes_eq-Decides m n).0) x names h
 
 is_there : (x : List ℕ) (names : List (List ℕ)) → Contains names x → is_among x names ≡ true
 is_there x names c =

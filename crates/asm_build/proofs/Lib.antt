@@ -1,3 +1,4 @@
+pub mod PlaceLemmas
 pub mod NameLemmas
 pub mod ListLemmas
 pub mod UseLemmas

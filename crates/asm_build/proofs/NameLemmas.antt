@@ -1,54 +1,21 @@
 -- Symbols and sets of names in memory are those that contracts see, by bytes.
 use Rattle.std.proofs.Common.{◌≡◌, ℕ, suc, arith, slice_get, None, ◌+◌, ◌<◌, ◌≤◌, length, drop, get_or}
-use Rattle.std.proofs.Common.{drop-cons, add-one, List, [], ◌∷◌, ◌++◌, Bool, true, false, ◌||◌, Some, cond}
+use Rattle.std.proofs.Common.{drop-cons, add-one, List, [], ◌∷◌, Bool, true, false, ◌||◌, Option, Some, cond}
 use Rattle.std.proofs.Common.{map, refl, sym, ap, ◌∙◌}
 use Rattle.std.specs.Prelude.{String, fold}
 use Rattle.std.specs.Global.{Global}
 use Rattle.std.specs.Str.{bytes_eq}
-use Rattle.std.specs.String.{string_bytes, string_eq}
+use Rattle.std.specs.String.{string_bytes}
 use Rattle.std.specs.List.{list_any, AllZip}
 use Rattle.std.specs.Map.{lookup}
-use Rattle.std.proofs.lemmas.Slice.Eq.{bytes_eq-Decides}
-use Rattle.std.proofs.lemmas.List.Folds.{list_any-append}
-use Rattle.std.proofs.lemmas.List.{map-append, drop_all}
+use Rattle.std.proofs.lemmas.List.{drop_all}
 use Rattle.std.proofs.lemmas.Option.{slice_get_within, get_or_from_slice_get, slice_get-get_or}
 use denote.Bor.{Bor}
-use Rattle.indexmap.specs.IndexMap.{insert_entry}
-use Rattle.indexmap.specs.IndexSet.{insert_key}
 use Rattle.asm_build.specs.declared.symbols.Symbol.{Symbol}
 use Rattle.asm_build.specs.Texts.{entries_in}
-use Rattle.asm_build.specs.Reading.{symbol_at}
 use Rattle.asm_build.specs.Layout.{is_among}
 use Rattle.asm_build.specs.Meaning.{with_symbol}
-
-abbrev Entry : Type 0
-Entry = String Global × Symbol
-
-pub find_entry : (q : List ℕ) (es : List Entry)
-    → lookup (λ k. bytes_eq q (string_bytes k)) es ≡ symbol_at (entries_in es) q
-find_entry q [] = refl
-find_entry q (e ∷ es) = ap (cond (bytes_eq q (string_bytes e.0)) (Some e.1)) (find_entry q es)
-
-set_step : (b : Bool) (k : String Global) (d c : Symbol) (es fs : List Entry) (gs : List (List ℕ × Symbol))
-    → entries_in fs ≡ gs
-    → entries_in (cond b ((k, d) ∷ es) ((k, c) ∷ fs))
-    ≡ cond b ((string_bytes k, d) ∷ entries_in es) ((string_bytes k, c) ∷ gs)
-set_step true k d c es fs gs h = refl
-set_step false k d c es fs gs h = ap (λ (t : List (List ℕ × Symbol)). (string_bytes k, c) ∷ t) h
-
-pub set_entry : (k : String Global) (d : Symbol) (es : List Entry)
-    → entries_in (insert_entry string_eq es k d) ≡ with_symbol (entries_in es) (string_bytes k) d
-set_entry k d [] = refl
-set_entry k d (e ∷ es) =
-    set_step (string_eq k e.0) e.0 d e.1 es (insert_entry string_eq es k d)
-    (with_symbol (entries_in es) (string_bytes k) d) (set_entry k d es)
-
-copy_entry : (e f : Entry) (es fs : List Entry) → string_bytes f.0 ≡ string_bytes e.0 → f.1 ≡ e.1
-    → entries_in fs ≡ entries_in es → entries_in (f ∷ fs) ≡ entries_in (e ∷ es)
-copy_entry e f es fs h k more =
-    ap (λ (b : List ℕ). (b, f.1) ∷ entries_in fs) h
-    ∙ ap (λ (d : Symbol). (string_bytes e.0, d) ∷ entries_in fs) k
-    ∙ ap (λ (t : List (List ℕ × Symbol)). (string_bytes e.0, e.1) ∷ t) more
+use Rattle.asm_build.proofs.PlaceLemmas.{Entry, Table, eq_swap}
 
 -- ---- sets
 
@@ -62,38 +29,31 @@ pub among_texts : (x : List ℕ) (ks : List Text) → list_any (λ k. bytes_eq x
 among_texts x [] = refl
 among_texts x (k ∷ ks) = ap (λ b. bytes_eq x k.now || b) (among_texts x ks)
 
-among_there : (x v : List ℕ) (names : List (List ℕ)) (b : Bool) → is_among v names ≡ true → bytes_eq x v ≡ b
-    → is_among x names ≡ ((b || false) || is_among x names)
-among_there x v names true h e = ap (λ n. is_among n names) ((bytes_eq-Decides x v).0 e) ∙ h
-among_there x v names false h e = refl
+or_new : (b c : Bool) → cond b true c ≡ ((b || false) || c)
+or_new true c = refl
+or_new false c = refl
 
-or_swap : (a b : Bool) → (a || (b || false)) ≡ ((b || false) || a)
-or_swap true true = refl
-or_swap true false = refl
-or_swap false true = refl
-or_swap false false = refl
-
-among_more : (x v : List ℕ) (names : List (List ℕ))
-    → is_among x (names ++ v ∷ []) ≡ (is_among x (v ∷ []) || is_among x names)
-among_more x v names = list_any-append (bytes_eq x) names (v ∷ []) ∙ or_swap (is_among x names) (bytes_eq x v)
-
-insert_by : (x : List ℕ) (v : Text) (ks : List Text) (b : Bool) → is_among v.now (texts ks) ≡ b
-    → is_among x (texts (cond b ks (ks ++ v ∷ []))) ≡ (is_among x (v.now ∷ []) || is_among x (texts ks))
-insert_by x v ks true h = among_there x v.now (texts ks) (bytes_eq x v.now) h refl
-insert_by x v ks false h =
-    ap (is_among x) (map-append (λ (n : Text). n.now) ks (v ∷ [])) ∙ among_more x v.now (texts ks)
-
-pub among_inserted : (x : List ℕ) (v : Text) (ks : List Text)
-    → is_among x (texts (insert_key (λ (m n : Text). bytes_eq m.now n.now) ks v))
-    ≡ (is_among x (v.now ∷ []) || is_among x (texts ks))
-among_inserted x v ks =
-    ap (λ b. is_among x (texts (cond b ks (ks ++ v ∷ [])))) (among_texts v.now ks)
-    ∙ insert_by x v ks (is_among v.now (texts ks)) refl
+pub among_inserted : (x v : List ℕ) (ks more : List Text)
+    → list_any (λ (n : Text). bytes_eq x n.now) more
+    ≡ cond (bytes_eq v x) true (list_any (λ (n : Text). bytes_eq x n.now) ks)
+    → is_among x (texts more) ≡ (is_among x (v ∷ []) || is_among x (texts ks))
+among_inserted x v ks more h =
+    sym (among_texts x more) ∙ h
+    ∙ ap (λ b. cond b true (list_any (λ (n : Text). bytes_eq x n.now) ks)) (eq_swap v x)
+    ∙ or_new (bytes_eq x v) (list_any (λ (n : Text). bytes_eq x n.now) ks)
+    ∙ ap (λ b. (bytes_eq x v || false) || b) (among_texts x ks)
 
 -- ---- copies
 
 abbrev IsCopy : Entry → Entry → Type 0
 IsCopy e f = (string_bytes f.0 ≡ string_bytes e.0) × (f.1 ≡ e.1)
+
+copy_entry : (e f : Entry) (es fs : List Entry) → string_bytes f.0 ≡ string_bytes e.0 → f.1 ≡ e.1
+    → entries_in fs ≡ entries_in es → entries_in (f ∷ fs) ≡ entries_in (e ∷ es)
+copy_entry e f es fs h k more =
+    ap (λ (b : List ℕ). (b, f.1) ∷ entries_in fs) h
+    ∙ ap (λ (d : Symbol). (string_bytes e.0, d) ∷ entries_in fs) k
+    ∙ ap (λ (t : List (List ℕ × Symbol)). (string_bytes e.0, e.1) ∷ t) more
 
 pub copied : (es fs : List Entry) → AllZip IsCopy es fs → entries_in fs ≡ entries_in es
 copied [] [] h = refl
@@ -101,10 +61,26 @@ copied [] (f ∷ fs) h = absurd h
 copied (e ∷ es) [] h = absurd h
 copied (e ∷ es) (f ∷ fs) h = copy_entry e f es fs h.0.0 h.0.1 (copied es fs h.1)
 
--- ---- definitions, one after the other
+abbrev Place : Type 0
+Place = String Global × ℕ
 
-abbrev pub Table : Type 0
-Table = List (List ℕ × Symbol)
+abbrev IsPlaceCopy : Place → Place → Type 0
+IsPlaceCopy p q = (string_bytes q.0 ≡ string_bytes p.0) × (q.1 ≡ p.1)
+
+abbrev found_in : List ℕ → List Place → Option ℕ
+found_in x ps = lookup (λ k. bytes_eq x (string_bytes k)) ps
+
+pub copied_places : (ps qs : List Place) (x : List ℕ) → AllZip IsPlaceCopy ps qs
+    → found_in x qs ≡ found_in x ps
+copied_places [] [] x h = refl
+copied_places [] (q ∷ qs) x h = absurd h
+copied_places (p ∷ ps) [] x h = absurd h
+copied_places (p ∷ ps) (q ∷ qs) x h =
+    ap (λ k. cond (bytes_eq x k) (Some q.1) (found_in x qs)) h.0.0
+    ∙ ap (λ i. cond (bytes_eq x (string_bytes p.0)) (Some i) (found_in x qs)) h.0.1
+    ∙ ap (cond (bytes_eq x (string_bytes p.0)) (Some p.1)) (copied_places ps qs x h.1)
+
+-- ---- definitions, one after the other
 
 abbrev pub defines : Table → List ℕ × Symbol → Table
 defines es e = with_symbol es e.0 e.1

@@ -4,7 +4,6 @@ use Rattle.std.specs.Prelude.{Some, None, is_some, Result, Ok, Err, if◌then◌
 use Rattle.std.specs.Str.{bytes_eq}
 use Rattle.std.specs.List.{list_any}
 use Rattle.asm_expr.specs.Value.{value_of}
-use Rattle.asm_expr.specs.declared.evaluation.ExprFault.TheVariants as expr
 use Rattle.asm_syntax.specs.declared.fault.FaultKind.TheVariants as fault
 use Rattle.asm_syntax.specs.declared.statement.Label.{Label}
 use Rattle.asm_syntax.specs.declared.statement.Operand.{Operand}

@@ -3,10 +3,8 @@ use Rattle.std.specs.Prelude.{◌≡◌, ℕ, ◌+◌, ◌%◌, List, [], ◌∷
 use Rattle.std.specs.Prelude.{Some, None, Result, Ok, Err, if◌then◌else◌, fold}
 use Rattle.std.specs.Str.{bytes_eq}
 use Rattle.std.specs.List.{list_any}
-use Rattle.indexmap.specs.IndexMap.{insert_entry}
 use Rattle.asm_syntax.specs.declared.fault.FaultKind.TheVariants as fault
 use Rattle.asm_syntax.specs.declared.statement.Label.{Label}
-use Rattle.asm_syntax.specs.declared.statement.Action.TheVariants as action
 use Rattle.asm_syntax.specs.declared.statement.Operation.{Operation}
 use Rattle.asm_syntax.specs.declared.statement.Statement.{Statement}
 use Rattle.asm_syntax.specs.Outcome.{Fault, CellFault, ◌>>=◌, at_line}
@@ -84,7 +82,8 @@ output_of kept all (p ∷ ps) = do
 
 -- a symbol for a name: one that is there keeps its place, a new one is last
 abbrev pub with_symbol : Entries → List ℕ → Symbol → Entries
-with_symbol es x d = insert_entry bytes_eq es x d
+with_symbol [] x d = (x, d) ∷ []
+with_symbol (e ∷ es) x d = if bytes_eq x e.0 then (e.0, d) ∷ es else e ∷ with_symbol es x d
 
 -- names with the definition of a statement
 abbrev pub with_definition : Option (Label × SymbolKind) → Laid → Entries → Entries

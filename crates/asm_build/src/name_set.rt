@@ -2,13 +2,13 @@
 ghost use Rattle.std.specs.Prelude.{◌≡◌, [], ◌∷◌, OnOk};
 
 use asm_expr::expression::Expr;
-use indexmap::IndexSet;
 use std::alloc::{AllocError, Global};
+use std::collections::HashSet;
 use std::marker::Model;
 
 /// Names, borrowed from statements.
 pub(crate) struct NameSet<'a> {
-    names: IndexSet<&'a str>,
+    names: HashSet<&'a str>,
 }
 
 // One function for all places where a set is dropped.
@@ -34,7 +34,7 @@ impl<'a> NameSet<'a> {
         ensures { result ≡ [] }
     {
         NameSet {
-            names: IndexSet::new(alloc),
+            names: HashSet::new(alloc),
         }
     }
 

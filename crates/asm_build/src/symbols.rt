@@ -1,9 +1,10 @@
 //! Symbols: names with their values (8080/8085 Assembly Language Programming Manual, chapter 2,
 //! "Symbols and symbol tables").
-ghost use Rattle.std.specs.Prelude.{◌≡◌, [], length, option_map, slice_get, fold, OnOk, OnErr, IfOk};
+ghost use Rattle.std.specs.Prelude.{◌≡◌, ◌++◌, ◌∷◌, [], None, length, option_map, slice_get, fold};
+ghost use Rattle.std.specs.Prelude.{OnOk, OnErr, IfOk};
 
-use indexmap::IndexMap;
 use std::alloc::{AllocError, Global};
+use std::collections::HashMap;
 use std::marker::Model;
 
 /// How a name was defined.
@@ -37,37 +38,48 @@ pub struct Symbol {
 
 /// Names, in upper case, with their values, in the order of definition.
 pub struct Symbols {
-    entries: IndexMap<String, Symbol>,
+    entries: Vec<(String, Symbol)>,
+    // The index of each name.
+    places: HashMap<String, usize>,
 }
 
 // One function for all places where symbols are dropped.
 impl Drop for Symbols {
     fn drop(self) {
-        let Self { entries: _ } = self;
+        let Self {
+            entries: _,
+            places: _,
+        } = self;
     }
 }
 
 impl Model for Symbols {
-    ghost use Rattle.std.specs.Prelude.{List, ℕ};
+    ghost use Rattle.std.specs.Prelude.{◌≡◌, List, ℕ};
     ghost use Rattle.asm_build.specs.declared.symbols.Symbol.{Symbol};
 
     ghost Value = { List (List ℕ × Symbol) };
 
-    ghost use Rattle.asm_build.specs.Texts.{entries_in};
+    ghost use Rattle.std.specs.HashMap.{get_by_text};
+    ghost use Rattle.asm_build.specs.Texts.{entries_in, place_in};
 
-    ghost view = { λ s. entries_in s.entries.entries };
+    ghost view = { λ s. entries_in s.entries.items };
+
+    ghost invariant = { λ s. (x : List ℕ) → get_by_text s.places x
+        ≡ place_in (entries_in s.entries.items) x };
 }
 
 impl Symbols {
     ghost use Rattle.asm_build.specs.Reading.{symbol_at};
     ghost use Rattle.asm_build.specs.Meaning.{with_symbol};
+    ghost use Rattle.asm_build.specs.Texts.{place_in};
 
     /// No symbols.
     pub fn new(alloc: Global) -> Symbols
         ensures { result ≡ [] }
     {
         Symbols {
-            entries: IndexMap::new(alloc),
+            entries: Vec::new(alloc),
+            places: HashMap::new(alloc),
         }
     }
 
@@ -82,15 +94,32 @@ impl Symbols {
     pub fn get(&self, name: &str) -> Option<Symbol>
         ensures { result ≡ symbol_at self.now name.now }
     {
-        self.entries.get(name).copied()
+        match self.places.get(name) {
+            None => None,
+            Some(place) => Some(self.entries[*place].1),
+        }
     }
 
     /// The name at this index, from 0, in the order of definition, and its symbol.
     pub fn at(&self, index: usize) -> Option<(&str, Symbol)>
         ensures { option_map (λ e. (e.0.now, e.1)) result ≡ slice_get self.now index }
     {
-        let (name, symbol) = self.entries.get_index(index)?;
+        let (name, symbol) = self.entries.get(index)?;
         Some((name.as_str(), *symbol))
+    }
+
+    // Adds a symbol whose name is new. Each allocation comes before the first change.
+    fn add(&mut self, alloc: Global, name: &str, symbol: Symbol) -> Result<(), AllocError>
+        requires { place_in self.old name.now ≡ None }
+        ensures ok { OnOk result (self.new ≡ self.old ++ (name.now, symbol) ∷ []) }
+        ensures err { OnErr result (self.new ≡ self.old) }
+    {
+        let key = String::from_str(alloc, name)?;
+        let text = String::from_str(alloc, name)?;
+        self.entries.reserve(1)?;
+        self.places.insert(key, self.entries.len())?;
+        self.entries.push((text, symbol))?;
+        Ok(())
     }
 
     // Adds a symbol, or replaces the one of this name in its place.
@@ -103,9 +132,13 @@ impl Symbols {
         ensures ok { OnOk result (self.new ≡ with_symbol self.old name.now symbol) }
         ensures err { OnErr result (self.new ≡ self.old) }
     {
-        let text = String::from_str(alloc, name)?;
-        self.entries.insert(text, symbol)?;
-        Ok(())
+        match self.places.get(name) {
+            None => self.add(alloc, name, symbol),
+            Some(place) => {
+                self.entries[*place].1 = symbol;
+                Ok(())
+            }
+        }
     }
 
     // A copy of the symbols.
@@ -113,7 +146,8 @@ impl Symbols {
         ensures { IfOk result (λ s. s ≡ self.now) }
     {
         let entries = self.entries.clone()?;
-        Ok(Symbols { entries })
+        let places = self.places.clone()?;
+        Ok(Symbols { entries, places })
     }
 
     // Adds the others, each in turn.
