@@ -1,6 +1,7 @@
 """Channels that strangers try to shut: whoever comes after them is let in within seconds, and nobody honest has to leave."""
 import collections
 import contextlib
+import threading
 import time
 
 from browser import wait_until
@@ -25,6 +26,9 @@ SOCKETS, SECONDS_OF_SOCKETS = 64, 15
 # thirty; where it reads all that they sent at the rate of strangers, it takes seven minutes.
 SECONDS_OF_A_TAIL = 40
 
+# A short frame of 255 bytes, of which none has come, and how often one comes.
+HALF_A_MESSAGE, SECONDS_OF_A_DROP = b"\x00\xff", 0.1
+
 # Longer than anyone must have been connected to be asked to leave for another.
 HONEST = 8
 
@@ -38,6 +42,29 @@ def subscribes_once(peer):
 
 def says_nothing(_):
     """A stranger that doesn't even greet."""
+
+
+@contextlib.contextmanager
+def dripping(peers):
+    """Strangers that go on with a message, byte after byte, until they are closed."""
+    is_over = threading.Event()
+
+    def drip():
+        going = list(peers)
+        while not is_over.wait(SECONDS_OF_A_DROP):
+            for peer in list(going):
+                try:
+                    peer.say(b"x")
+                except OSError:
+                    going.remove(peer)
+
+    thread = threading.Thread(target=drip)
+    thread.start()
+    try:
+        yield
+    finally:
+        is_over.set()
+        thread.join()
 
 
 def established(connection):
@@ -81,6 +108,18 @@ class Shut(SideBySide):
     @side_by_side
     def test_silent_strangers_on_the_heartbeat(self):
         self.starts_beside(("hb",), subscribes_once)
+
+    @side_by_side
+    def test_half_a_message_is_no_beat(self):
+        """Strangers on the heartbeat that send a message which doesn't end, a byte now and then."""
+        with Kernel() as kernel, contextlib.ExitStack() as strangers:
+            peers = [strangers.enter_context(kernel.peer("hb")) for _ in range(PLACES)]
+            for peer in peers:
+                peer.greet()
+                peer.say(HALF_A_MESSAGE)
+            strangers.enter_context(dripping(peers))
+            with kernel.client() as client:
+                wait_until_ready(client, SECONDS)
 
     @side_by_side
     def test_silent_strangers_on_all_channels(self):

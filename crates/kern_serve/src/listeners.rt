@@ -1,8 +1,7 @@
 //! The ports of a server.
 use crate::host::TcpNet;
-use jup_wire::channel::Channel;
 use jup_wire::connection_file::ConnectionFile;
-use kern_waits::port::Port;
+use kern_waits::port::{ByPort, Port};
 use std::io;
 use std::net::{Ipv4Addr, TcpListener};
 
@@ -27,13 +26,7 @@ fn bind_pair<R: TcpNet>(rt: &R, ip: Ipv4Addr, first: u16, second: u16) -> io::Re
 
 /// The five bound ports of a kernel.
 #[derive(Drop)]
-pub struct Listeners {
-    shell: TcpListener,
-    iopub: TcpListener,
-    stdin: TcpListener,
-    control: TcpListener,
-    heartbeat: TcpListener,
-}
+pub struct Listeners(ByPort<TcpListener>);
 
 // Binds the ports of the channels: shell and iopub, stdin and control.
 fn bind_channels<R: TcpNet>(rt: &R, file: &ConnectionFile) -> io::Result<(Pair, Pair)> {
@@ -53,13 +46,13 @@ impl Listeners {
     pub fn bind<R: TcpNet>(rt: &R, file: &ConnectionFile) -> io::Result<Listeners> {
         let heartbeat = bind_port(rt, file.ip, file.hb_port)?;
         match bind_channels(rt, file) {
-            Ok((Pair(shell, iopub), Pair(stdin, control))) => Ok(Listeners {
+            Ok((Pair(shell, iopub), Pair(stdin, control))) => Ok(Listeners(ByPort {
                 shell,
                 iopub,
                 stdin,
                 control,
                 heartbeat,
-            }),
+            })),
             Err(error) => {
                 drop(heartbeat);
                 Err(error)
@@ -69,12 +62,6 @@ impl Listeners {
 
     /// The listener of a port.
     pub fn of(&self, port: Port) -> &TcpListener {
-        match port {
-            Port::Channel(Channel::Shell) => &self.shell,
-            Port::Channel(Channel::Iopub) => &self.iopub,
-            Port::Channel(Channel::Stdin) => &self.stdin,
-            Port::Channel(Channel::Control) => &self.control,
-            Port::Heartbeat => &self.heartbeat,
-        }
+        self.0.of(port)
     }
 }

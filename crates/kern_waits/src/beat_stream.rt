@@ -1,10 +1,10 @@
-//! Reading the heartbeat.
+//! The socket of a connection of the heartbeat, to read from and to write to.
 use crate::peer_stream::{PeerStream, Watch, lift_timeout};
 use crate::port::Port;
 use crate::slots::{PortSlot, Slots};
 use kern_pace::eviction::Stage;
 use std::io;
-use std::io::Read;
+use std::io::{Read, Write};
 use std::net::TcpStream;
 use std::rt::Clock;
 use std::sync::Wait;
@@ -66,36 +66,30 @@ impl Opening {
     }
 }
 
-/// The socket of a connection of the heartbeat, from which it is read. Its handshake must come in time. Notes
-/// each beat in the slots.
+/// The socket of a connection of the heartbeat, from which it is read. Its handshake must come in time.
 #[derive(Drop)]
 pub struct BeatStream<'a, R: Wait + Clock> {
     peer: PeerStream<'a, R>,
     opening: Opening,
     stream: &'a TcpStream,
     has_met: &'a AtomicBool,
-    rt: &'a R,
-    slots: &'a Slots,
-    slot: PortSlot,
+    is_asked: &'a AtomicBool,
 }
 
 impl<'a, R: Wait + Clock> BeatStream<'a, R> {
-    /// The socket of a new connection in a slot.
+    /// The socket of a new connection. `is_asked` becomes true once bytes have come behind the handshake.
     pub fn new(
         watch: Watch<'a, R>,
-        slots: &'a Slots,
-        slot: PortSlot,
+        is_asked: &'a AtomicBool,
         stream: &'a TcpStream,
     ) -> BeatStream<'a, R> {
-        let (rt, has_met) = (watch.rt, watch.has_met);
+        let has_met = watch.has_met;
         BeatStream {
             peer: PeerStream::new(watch, Port::Heartbeat, stream),
             opening: Opening::new(),
             stream,
             has_met,
-            rt,
-            slots,
-            slot,
+            is_asked,
         }
     }
 
@@ -115,7 +109,7 @@ impl<'a, R: Wait + Clock> Read for BeatStream<'a, R> {
         if self.has_met.load(Ordering::SeqCst) {
             let count = self.peer.read(buffer)?;
             if count > 0 {
-                self.slots.reach(self.rt, self.slot, Stage::Beats);
+                self.is_asked.store(true, Ordering::SeqCst);
             }
             return Ok(count);
         }
@@ -123,5 +117,50 @@ impl<'a, R: Wait + Clock> Read for BeatStream<'a, R> {
         let count = self.peer.read(&mut buffer[..most])?;
         self.note_opening(&buffer[..count]);
         Ok(count)
+    }
+}
+
+/// The socket of a connection of the heartbeat, to which it is written. What is sent once the peer has asked
+/// for something is a beat, which is noted in the slots: half a message is none, however often more of it
+/// comes.
+#[derive(Drop)]
+pub struct BeatSink<'a, R: Wait + Clock> {
+    stream: &'a TcpStream,
+    is_asked: &'a AtomicBool,
+    rt: &'a R,
+    slots: &'a Slots,
+    slot: PortSlot,
+}
+
+impl<'a, R: Wait + Clock> BeatSink<'a, R> {
+    /// The socket of the connection in a slot; `is_asked` is that of its `BeatStream`.
+    pub fn new(
+        rt: &'a R,
+        slots: &'a Slots,
+        slot: PortSlot,
+        is_asked: &'a AtomicBool,
+        stream: &'a TcpStream,
+    ) -> BeatSink<'a, R> {
+        BeatSink {
+            stream,
+            is_asked,
+            rt,
+            slots,
+            slot,
+        }
+    }
+}
+
+impl<'a, R: Wait + Clock> Write for BeatSink<'a, R> {
+    fn write(&mut self, bytes: &[u8]) -> io::Result<usize> {
+        let count = self.stream.write(bytes)?;
+        if self.is_asked.load(Ordering::SeqCst) {
+            self.slots.reach(self.rt, self.slot, Stage::Beats);
+        }
+        Ok(count)
+    }
+
+    fn flush(&mut self) -> io::Result<()> {
+        self.stream.flush()
     }
 }

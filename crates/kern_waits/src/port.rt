@@ -38,3 +38,26 @@ impl Port {
         }
     }
 }
+
+/// A value for each port.
+#[derive(Drop)]
+pub struct ByPort<T: Drop> {
+    pub shell: T,
+    pub iopub: T,
+    pub stdin: T,
+    pub control: T,
+    pub heartbeat: T,
+}
+
+impl<T: Drop> ByPort<T> {
+    /// The value of a port.
+    pub fn of(&self, port: Port) -> &T {
+        match port {
+            Port::Channel(Channel::Shell) => &self.shell,
+            Port::Channel(Channel::Iopub) => &self.iopub,
+            Port::Channel(Channel::Stdin) => &self.stdin,
+            Port::Channel(Channel::Control) => &self.control,
+            Port::Heartbeat => &self.heartbeat,
+        }
+    }
+}

@@ -1,11 +1,10 @@
 //! Which connection has which slot of a port. If all slots are taken and another connection waits, kern_pace
 //! says which one is closed for it.
 use crate::event_count::EventCount;
-use crate::port::Port;
+use crate::port::{ByPort, Port};
 use crate::sockets::close;
 use crate::stopwatch::Stopwatch;
 use crate::wakeups::SLOTS;
-use jup_wire::channel::Channel;
 use kern_pace::eviction::{Occupancy, Stage, leaver};
 use std::alloc::{AllocError, Global};
 use std::net::TcpStream;
@@ -93,11 +92,7 @@ fn has_evicted(occupants: &[Option<Occupant>]) -> bool {
 #[derive(Drop)]
 pub struct Slots {
     stopwatch: Stopwatch,
-    shell: PortSlots,
-    iopub: PortSlots,
-    stdin: PortSlots,
-    control: PortSlots,
-    heartbeat: PortSlots,
+    ports: ByPort<PortSlots>,
     // Where a thread waits whose slot isn't among these.
     nowhere: EventCount,
 }
@@ -112,23 +107,15 @@ impl Slots {
         let heartbeat = new_slots(alloc)?;
         Ok(Slots {
             stopwatch: Stopwatch::new(clock),
-            shell,
-            iopub,
-            stdin,
-            control,
-            heartbeat,
+            ports: ByPort {
+                shell,
+                iopub,
+                stdin,
+                control,
+                heartbeat,
+            },
             nowhere: EventCount::new(),
         })
-    }
-
-    fn of(&self, port: Port) -> &PortSlots {
-        match port {
-            Port::Channel(Channel::Shell) => &self.shell,
-            Port::Channel(Channel::Iopub) => &self.iopub,
-            Port::Channel(Channel::Stdin) => &self.stdin,
-            Port::Channel(Channel::Control) => &self.control,
-            Port::Heartbeat => &self.heartbeat,
-        }
     }
 
     fn millis<C: Clock>(&self, clock: &C) -> u64 {
@@ -136,7 +123,7 @@ impl Slots {
     }
 
     fn call_of(&self, slot: PortSlot) -> &EventCount {
-        match self.of(slot.port).calls.get(slot.number) {
+        match self.ports.of(slot.port).calls.get(slot.number) {
             Some(call) => call,
             None => &self.nowhere,
         }
@@ -144,7 +131,8 @@ impl Slots {
 
     /// The first free slot of a port, if there is one.
     pub fn free<R: Wait>(&self, rt: &R, port: Port) -> Option<usize> {
-        self.of(port)
+        self.ports
+            .of(port)
             .occupants
             .lock(rt)
             .iter()
@@ -154,7 +142,7 @@ impl Slots {
     /// Gives a slot to a connection that has just been accepted, and wakes the slot's thread.
     pub fn enter<R: Wait + Clock>(&self, rt: &R, slot: PortSlot, stream: Arc<TcpStream>) {
         let now = self.millis(rt);
-        let mut occupants = self.of(slot.port).occupants.lock(rt);
+        let mut occupants = self.ports.of(slot.port).occupants.lock(rt);
         if let Some(occupant) = occupants.get_mut(slot.number) {
             *occupant = Some(Occupant {
                 stream,
@@ -177,7 +165,7 @@ impl Slots {
         seen: u64,
     ) -> (u64, Option<Arc<TcpStream>>) {
         let seen = self.call_of(slot).wait(rt, seen);
-        let occupants = self.of(slot.port).occupants.lock(rt);
+        let occupants = self.ports.of(slot.port).occupants.lock(rt);
         match occupants.get(slot.number) {
             Some(Some(occupant)) => (seen, Arc::try_clone(&occupant.stream).ok()),
             Some(None) | None => (seen, None),
@@ -187,7 +175,7 @@ impl Slots {
     /// Notes how far the connection in a slot has come. On the heartbeat each beat counts.
     pub fn reach<R: Wait + Clock>(&self, rt: &R, slot: PortSlot, stage: Stage) {
         let now = self.millis(rt);
-        let mut occupants = self.of(slot.port).occupants.lock(rt);
+        let mut occupants = self.ports.of(slot.port).occupants.lock(rt);
         if let Some(Some(occupant)) = occupants.get_mut(slot.number) {
             occupant.stage = stage;
             occupant.since = now;
@@ -196,7 +184,7 @@ impl Slots {
 
     /// Notes that the connection in a slot has left.
     pub fn leave<R: Wait>(&self, rt: &R, slot: PortSlot) {
-        let mut occupants = self.of(slot.port).occupants.lock(rt);
+        let mut occupants = self.ports.of(slot.port).occupants.lock(rt);
         if let Some(occupant) = occupants.get_mut(slot.number) {
             *occupant = None;
         }
@@ -206,7 +194,7 @@ impl Slots {
     /// about to be free.
     pub fn evict<R: Wait + Clock>(&self, rt: &R, port: Port) -> bool {
         let now = self.millis(rt);
-        let mut occupants = self.of(port).occupants.lock(rt);
+        let mut occupants = self.ports.of(port).occupants.lock(rt);
         if has_evicted(&occupants) {
             return true;
         }

@@ -1,5 +1,5 @@
 //! The throttles of a server's ports, shared by all its connection threads.
-use crate::port::Port;
+use crate::port::{ByPort, Port};
 use crate::stopwatch::Stopwatch;
 use jup_wire::channel::Channel;
 use kern_pace::budget::Budget;
@@ -30,11 +30,7 @@ impl PortThrottle {
 #[derive(Drop)]
 pub struct Throttles {
     stopwatch: Stopwatch,
-    shell: PortThrottle,
-    iopub: PortThrottle,
-    stdin: PortThrottle,
-    control: PortThrottle,
-    heartbeat: PortThrottle,
+    ports: ByPort<PortThrottle>,
 }
 
 impl Throttles {
@@ -42,21 +38,13 @@ impl Throttles {
     pub fn new<C: Clock>(clock: &C) -> Throttles {
         Throttles {
             stopwatch: Stopwatch::new(clock),
-            shell: PortThrottle::new(),
-            iopub: PortThrottle::new(),
-            stdin: PortThrottle::new(),
-            control: PortThrottle::new(),
-            heartbeat: PortThrottle::new(),
-        }
-    }
-
-    fn of(&self, port: Port) -> &PortThrottle {
-        match port {
-            Port::Channel(Channel::Shell) => &self.shell,
-            Port::Channel(Channel::Iopub) => &self.iopub,
-            Port::Channel(Channel::Stdin) => &self.stdin,
-            Port::Channel(Channel::Control) => &self.control,
-            Port::Heartbeat => &self.heartbeat,
+            ports: ByPort {
+                shell: PortThrottle::new(),
+                iopub: PortThrottle::new(),
+                stdin: PortThrottle::new(),
+                control: PortThrottle::new(),
+                heartbeat: PortThrottle::new(),
+            },
         }
     }
 
@@ -65,7 +53,12 @@ impl Throttles {
         let Some(now) = self.stopwatch.millis(rt) else {
             return;
         };
-        let wait = self.of(Port::Channel(channel)).joins.lock(rt).admit(now);
+        let wait = self
+            .ports
+            .of(Port::Channel(channel))
+            .joins
+            .lock(rt)
+            .admit(now);
         if wait > 0 {
             thread::sleep(rt, Duration::from_millis(wait));
         }
@@ -74,7 +67,8 @@ impl Throttles {
     /// Counts an unauthenticated peer that has left a channel.
     pub fn add_unauthenticated<R: Wait + Clock>(&self, rt: &R, channel: Channel) {
         if let Some(now) = self.stopwatch.millis(rt) {
-            self.of(Port::Channel(channel))
+            self.ports
+                .of(Port::Channel(channel))
                 .joins
                 .lock(rt)
                 .add_unauthenticated(now);
@@ -84,14 +78,18 @@ impl Throttles {
     /// Counts unsigned bytes that were read on a port.
     pub fn spend<R: Wait + Clock>(&self, rt: &R, port: Port, bytes: u32) {
         if let Some(now) = self.stopwatch.millis(rt) {
-            self.of(port).bytes.lock(rt).spend(now, u64::from(bytes));
+            self.ports
+                .of(port)
+                .bytes
+                .lock(rt)
+                .spend(now, u64::from(bytes));
         }
     }
 
     /// How long to wait before more unsigned bytes are read, in milliseconds.
     pub fn wait_for_bytes<R: Wait + Clock>(&self, rt: &R, port: Port) -> u64 {
         match self.stopwatch.millis(rt) {
-            Some(now) => self.of(port).bytes.lock(rt).wait(now),
+            Some(now) => self.ports.of(port).bytes.lock(rt).wait(now),
             None => 0,
         }
     }
