@@ -1,5 +1,5 @@
 -- An event is answered with a body in place of its answer.
-use Rattle.std.proofs.Common.{Result, Ok, Err, ap}
+use Rattle.std.proofs.Common.{Result, Ok, Err, OnErr, ap}
 use Rattle.lab_core.specs.declared.answer.Answer.{Answer}
 use Rattle.lab_core.specs.declared.event.Event.{Event}
 use Rattle.lab_core.specs.declared.fault.EventFault.{EventFault}
@@ -7,11 +7,7 @@ use Rattle.lab_core.specs.Board.{Board}
 use Rattle.lab_core.specs.Events.{EventResult, result_of}
 use Rattle.lab_core.specs.Labs.{LabState, MatchesResult, CarriesOut}
 use Rattle.dap_answers.specs.declared.answer.Body.{Body}
-use Rattle.dap_board.specs.Commands.{with_body}
-
-abbrev pub reply_with : (Answer → Body) → Result Answer EventFault → Result Body EventFault
-reply_with to_body (Ok answer) = Ok (to_body answer)
-reply_with to_body (Err fault) = Err fault
+use Rattle.dap_board.specs.Commands.{with_body, reply_with}
 
 did_with : (to_body : Answer → Body) (b : Board) (g : EventResult) (reply : Result Answer EventFault)
     (lab : LabState)
@@ -25,3 +21,8 @@ pub does_with : (to_body : Answer → Body) (e : Event) (old new : LabState) (re
 does_with to_body e old new reply does = λ b represents no_want.
     did_with to_body b (result_of e b) reply new (does b represents (λ want. no_want (ap (reply_with to_body)
     want)))
+
+pub unchanged_with : (to_body : Answer → Body) (P : Type 0) (reply : Result Answer EventFault)
+    → OnErr reply P → OnErr (reply_with to_body reply) P
+unchanged_with to_body P (Ok answer) unchanged = tt
+unchanged_with to_body P (Err fault) unchanged = unchanged

@@ -32,6 +32,11 @@ Performed = Result (Body × Board) EventFault
 abbrev pub Performs : (Board → Performed) → LabState → Result Body EventFault → LabState → Type 0
 Performs f old result new = CarriesOut f old result new × OnErr result (new ≡ old)
 
+-- what an event is answered, with a body in place of the answer
+abbrev pub reply_with : (Answer → Body) → Result Answer EventFault → Result Body EventFault
+reply_with to_body (Ok answer) = Ok (to_body answer)
+reply_with to_body (Err fault) = Err fault
+
 -- the result of an event, with a body in place of the answer
 abbrev pub with_body : (Answer → Body) → EventResult → Performed
 with_body to_body (Ok (answer, b)) = Ok (to_body answer, b)

@@ -20,7 +20,7 @@ const REGISTERS: u32 = 1;
 fn show(lab: &mut Lab, view: View) -> Result<Body, EventFault>
     ensures { Performs (event_result (Event.Show view)) lab.old result lab.new }
 {
-    answer_to(lab, &Event::Show(view))
+    answer_to(lab, Event::Show(view))
 }
 
 fn source(lab: &mut Lab, path: &Text) -> Result<Body, EventFault>

@@ -26,7 +26,7 @@ fn set_breakpoints(lab: &mut Lab, path: &Text, lines: &Sequence<u32>) -> Result<
 {
     let path = path.clone()?;
     let lines = lines.clone()?;
-    answer_to(lab, &Event::SetBreakpoints { path, lines })
+    answer_to(lab, Event::SetBreakpoints { path, lines })
 }
 
 fn step(lab: &mut Lab, kind: StepKind, granularity: Granularity) -> Result<Body, EventFault>
@@ -34,7 +34,7 @@ fn step(lab: &mut Lab, kind: StepKind, granularity: Granularity) -> Result<Body,
         (step_request kind granularity)) Body.Empty) lab.old result lab.new }
 {
     let request = StepRequest { kind, granularity };
-    apply_for(lab, &Event::Step(request), Body::Empty)
+    apply_for(lab, Event::Step(request), Body::Empty)
 }
 
 /// Stores a cell's text under the path by which a frontend names it, and returns the path. The copies
@@ -45,7 +45,7 @@ fn dump_cell(alloc: Global, lab: &mut Lab, code: &Text) -> Result<Body, EventFau
     let path = cell_path(alloc, code.as_str())?;
     let text = code.clone()?;
     let answer = path.clone()?;
-    apply_for(lab, &Event::Dump { path, text }, Body::SourcePath(answer))
+    apply_for(lab, Event::Dump { path, text }, Body::SourcePath(answer))
 }
 
 /// Writes a register or a byte of memory. The text of the answer is made before the write.
@@ -64,7 +64,7 @@ fn set_variable(
         name,
         value,
     };
-    answer_to(lab, &event)
+    answer_to(lab, event)
 }
 
 fn board_with_aliases(aliases: bool) -> Board
@@ -83,7 +83,7 @@ fn type_text(alloc: Global, lab: &mut Lab, text: &Text) -> Result<Body, EventFau
         (latin_bytes text.now)) Body.Empty) lab.old result lab.new }
 {
     let bytes = to_bytes(alloc, text.as_str())?;
-    apply_for(lab, &Event::Typed(bytes), Body::Empty)
+    apply_for(lab, Event::Typed(bytes), Body::Empty)
 }
 
 /// Carries out a command on a board (Debug Adapter Protocol, "Requests"; Jupyter messaging, "Debug
@@ -96,32 +96,28 @@ pub fn perform(alloc: Global, lab: &mut Lab, command: &DapCommand) -> Result<Bod
 {
     match command {
         DapCommand::Initialize => Ok(Body::Capabilities),
-        DapCommand::Attach => apply_for(lab, &Event::Attach, Body::Empty),
-        DapCommand::Disconnect => apply_for(lab, &Event::Detach, Body::Empty),
+        DapCommand::Attach => apply_for(lab, Event::Attach, Body::Empty),
+        DapCommand::Disconnect => apply_for(lab, Event::Detach, Body::Empty),
         DapCommand::ConfigurationDone => Ok(Body::Empty),
         DapCommand::SetBreakpoints { path, lines } => set_breakpoints(lab, path, lines),
         DapCommand::Threads => Ok(Body::Threads),
-        DapCommand::Continue => apply_for(lab, &Event::Resume, Body::Continued),
+        DapCommand::Continue => apply_for(lab, Event::Resume, Body::Continued),
         DapCommand::Step { kind, granularity } => step(lab, *kind, *granularity),
-        DapCommand::Pause => apply_for(lab, &Event::Pause, Body::Empty),
+        DapCommand::Pause => apply_for(lab, Event::Pause, Body::Empty),
         DapCommand::DumpCell { code } => dump_cell(alloc, lab, code),
         DapCommand::SetVariable {
             reference,
             name,
             value,
         } => set_variable(lab, *reference, name, value),
-        DapCommand::BoardSwitches { value } => apply_for(
-            lab,
-            &Event::Switches(*value),
-            Body::Empty,
-        ),
-        DapCommand::BoardPress { vector } => apply_for(lab, &Event::Press(*vector), Body::Empty),
+        DapCommand::BoardSwitches { value } => apply_for(lab, Event::Switches(*value), Body::Empty),
+        DapCommand::BoardPress { vector } => apply_for(lab, Event::Press(*vector), Body::Empty),
         DapCommand::BoardType { text } => type_text(alloc, lab, text),
-        DapCommand::BoardReset => apply_for(lab, &Event::Reset, Body::Empty),
+        DapCommand::BoardReset => apply_for(lab, Event::Reset, Body::Empty),
         DapCommand::BoardAliases { aliases } => {
             apply_for(
                 lab,
-                &Event::SetBoard(board_with_aliases(*aliases)),
+                Event::SetBoard(board_with_aliases(*aliases)),
                 Body::Empty,
             )
         }

@@ -57,7 +57,9 @@ fn slice(lab: &mut Lab, n: u16) -> Result<SliceOutcome, ReplayFault>
         → IfOk result (λ outcome. RepresentsBoard lab.new (left_by outcome (after_steps n b))) }
     ensures rest { OnlyRunChanges lab.old lab.new }
 {
-    let answer = lab.apply(&Event::Slice(n));
+    let event = Event::Slice(n);
+    let answer = lab.apply(&event);
+    drop(event);
     outcome_of(answer, n)
 }
 
@@ -121,13 +123,14 @@ fn is_out_of_memory(answer: Result<Answer, EventFault>) -> bool
 }
 
 // Applies an event again. A refusal leaves the board, as it did the first time.
-fn apply(lab: &mut Lab, event: &Event) -> Result<(), AllocError>
-    requires { Fits event.now }
+fn apply(lab: &mut Lab, event: Event) -> Result<(), AllocError>
+    requires { Fits event }
     ensures ok { (b : Board) → RepresentsBoard lab.old b
-        → OnOk result (RepresentsBoard lab.new (after_event event.now b)) }
+        → OnOk result (RepresentsBoard lab.new (after_event event b)) }
     ensures err { OnErr result (lab.new ≡ lab.old) }
 {
-    let answer = lab.apply(event);
+    let answer = lab.apply(&event);
+    drop(event);
     if is_out_of_memory(answer) {
         return Err(AllocError);
     }
@@ -141,7 +144,7 @@ fn type_bytes(alloc: Global, lab: &mut Lab, bytes: &[u8]) -> Result<(), AllocErr
     ensures err { OnErr result (lab.new ≡ lab.old) }
 {
     let copy = Bytes::copy_of(alloc, bytes)?;
-    apply(lab, &Event::Typed(copy))
+    apply(lab, Event::Typed(copy))
 }
 
 /// Makes an input. If memory runs out, the board doesn't change.
@@ -152,8 +155,8 @@ pub fn redo(alloc: Global, lab: &mut Lab, input: &Input) -> Result<(), AllocErro
 {
     match input {
         Input::Typed(bytes) => type_bytes(alloc, lab, bytes.as_slice()),
-        Input::Switches(byte) => apply(lab, &Event::Switches(*byte)),
-        Input::Press(n) => apply(lab, &Event::Press(*n)),
+        Input::Switches(byte) => apply(lab, Event::Switches(*byte)),
+        Input::Press(n) => apply(lab, Event::Press(*n)),
         Input::Registers(registers) => {
             lab.set_registers(*registers);
             Ok(())

@@ -3,7 +3,7 @@ ghost use Rattle.std.specs.Prelude.{◌≡◌, option_map};
 ghost use Rattle.dap_launch.specs.Paths.{path_in, with_path, with_canonical};
 
 use base_text::text::Text;
-use dap_editor::request::{EditorCommand, EditorRequest, Launch, RequestContent};
+use dap_editor::request::{EditorCommand, EditorRequest, RequestContent};
 
 fn path_in(asked: &RequestContent) -> Option<&str>
     ensures { option_map (λ t. t.now) result ≡ path_in asked.now }
@@ -21,36 +21,19 @@ fn path_in(asked: &RequestContent) -> Option<&str>
     }
 }
 
-fn with_path(path: Text, asked: RequestContent) -> RequestContent
-    ensures { result ≡ with_path path asked }
+// Puts this path in the place of the one that is named, if one is.
+fn put_path(path: Text, asked: &mut RequestContent)
+    ensures { asked.new ≡ with_path path asked.old }
 {
     match asked {
-        RequestContent::Editor(EditorCommand::Launch(launch)) => {
-            RequestContent::Editor(EditorCommand::Launch(Launch {
-                canonical: path,
-                ..launch
-            }))
+        RequestContent::Editor(EditorCommand::Launch(launch)) => launch.canonical = path,
+        RequestContent::Editor(EditorCommand::Restart(Some(launch))) => launch.canonical = path,
+        RequestContent::Editor(EditorCommand::SetBreakpoints { path: named, .. }) => *named = path,
+        RequestContent::Editor(EditorCommand::BreakpointLocations { path: named, .. }) => {
+            *named = path
         }
-        RequestContent::Editor(EditorCommand::Restart(Some(launch))) => {
-            RequestContent::Editor(EditorCommand::Restart(Some(Launch {
-                canonical: path,
-                ..launch
-            })))
-        }
-        RequestContent::Editor(EditorCommand::SetBreakpoints { path: _, lines }) => {
-            RequestContent::Editor(EditorCommand::SetBreakpoints { path, lines })
-        }
-        RequestContent::Editor(
-            EditorCommand::BreakpointLocations {
-                path: _,
-                first,
-                last,
-            },
-        ) => { RequestContent::Editor(EditorCommand::BreakpointLocations { path, first, last }) }
-        RequestContent::Editor(EditorCommand::GotoTargets { path: _, line }) => {
-            RequestContent::Editor(EditorCommand::GotoTargets { path, line })
-        }
-        other => other,
+        RequestContent::Editor(EditorCommand::GotoTargets { path: named, .. }) => *named = path,
+        _ => drop(path),
     }
 }
 
@@ -69,10 +52,11 @@ pub fn with_canonical(request: EditorRequest, path: Option<Text>) -> EditorReque
     let Some(path) = path else {
         return request;
     };
-    let (seq, command, asked) = request.into_parts();
+    let (seq, command, mut asked) = request.into_parts();
+    put_path(path, &mut asked);
     EditorRequest {
         seq,
         command,
-        asked: with_path(path, asked),
+        asked,
     }
 }

@@ -1,4 +1,5 @@
 //! The contents of posts.
+ghost use Rattle.std.specs.Prelude.{◌≡◌, IfOk};
 
 use asm_syntax::fault::AsmFault;
 use base_text::sequence::Bytes;
@@ -100,6 +101,35 @@ impl RefusedRequest {
     }
 }
 
+// Contents with data on the heap are copied apart, so that `copy` has no early returns.
+fn copy_of_input(code: &Text, count: u64) -> Result<Content, AllocError>
+    ensures { IfOk result (λ copy. copy ≡ Content.ExecuteInput code.now count) }
+{
+    let code = code.clone()?;
+    Ok(Content::ExecuteInput { code, count })
+}
+
+fn copy_of_stream(bytes: &Bytes) -> Result<Content, AllocError>
+    ensures { IfOk result (λ copy. copy ≡ Content.Stream bytes.now) }
+{
+    let bytes = bytes.clone()?;
+    Ok(Content::Stream(bytes))
+}
+
+fn copy_of_close(comm_id: &Text) -> Result<Content, AllocError>
+    ensures { IfOk result (λ copy. copy ≡ Content.CommClose comm_id.now) }
+{
+    let comm_id = comm_id.clone()?;
+    Ok(Content::CommClose { comm_id })
+}
+
+fn copy_of_reply(response: &Response) -> Result<Content, AllocError>
+    ensures { IfOk result (λ copy. copy ≡ Content.DebugReply response.now) }
+{
+    let response = response.clone()?;
+    Ok(Content::DebugReply(response))
+}
+
 impl Content {
     ghost use Rattle.std.specs.Prelude.{◌≡◌, IfOk};
     ghost use Rattle.kern_post.specs.Topics.{topic_of};
@@ -109,17 +139,13 @@ impl Content {
         ensures { IfOk result (λ copy. copy ≡ self.now) }
     {
         match self {
+            Content::ExecuteInput { code, count } => copy_of_input(code, *count),
+            Content::Stream(bytes) => copy_of_stream(bytes),
+            Content::CommClose { comm_id } => copy_of_close(comm_id),
+            Content::DebugReply(response) => copy_of_reply(response),
             Content::Status(state) => Ok(Content::Status(*state)),
-            Content::ExecuteInput { code, count } => Ok(Content::ExecuteInput {
-                code: code.clone()?,
-                count: *count,
-            }),
-            Content::Stream(bytes) => Ok(Content::Stream(bytes.clone()?)),
             Content::InputRequest => Ok(Content::InputRequest),
             Content::Error(cause) => Ok(Content::Error(*cause)),
-            Content::CommClose { comm_id } => Ok(Content::CommClose {
-                comm_id: comm_id.clone()?,
-            }),
             Content::DebugEvent(event) => Ok(Content::DebugEvent(*event)),
             Content::KernelInfoReply => Ok(Content::KernelInfoReply),
             Content::ExecuteReply { count, ending } => Ok(Content::ExecuteReply {
@@ -137,7 +163,6 @@ impl Content {
                 restarts: *restarts,
             }),
             Content::InterruptReply => Ok(Content::InterruptReply),
-            Content::DebugReply(response) => Ok(Content::DebugReply(response.clone()?)),
             Content::BadContentReply(request) => Ok(Content::BadContentReply(*request)),
         }
     }
