@@ -358,6 +358,7 @@ class Boards(Lab):
             address = page.run("return location.pathname + location.search")
             self.assertTrue(address.startswith(f"/kernelspecs/{kernel}/panel.html?"), address)
             self.assertIn(board["id"], address)
+            self.assertIn("beside=1", address)
             self.browser.close_window()
             self.browser.use(first)
             self.end()

@@ -26,7 +26,7 @@ PUTS = "Object.assign(arguments[1] ? localStorage : sessionStorage, arguments[0]
 SHOWN = """
     const value = name => document.getElementById(name).value;
     return [value('cell'), value('base'), value('speed'), document.querySelectorAll('#watched li').length];"""
-NOTHING = ["", "hexadecimal", "3", 0]
+NOTHING = ["hexadecimal", "3", 0]
 
 
 def letters_of(text):
@@ -76,7 +76,7 @@ class Users(unittest.TestCase):
         """Leaves a cell, a draft, and settings."""
         page.run("setCell(arguments[0])", "; the answer of anna\n        HLT\n        END 0\n")
         page.click("#run")
-        page.waits(lambda: len(page.texts("#drafts option")) == 2)
+        page.waits(lambda: len(page.texts("#drafts option")) == 3)
         page.choose("#base", "decimal")
         page.run("const speed = document.getElementById('speed'); speed.value = 7; speed.oninput()")
         page.run("document.getElementById('watch-place').value = '0100'")
@@ -93,7 +93,9 @@ class Users(unittest.TestCase):
             self.assertEqual(others, [])
         with self.server("/user/ben/") as server:
             page = self.page(server)
-            self.assertEqual((page.run(SHOWN), page.texts("#drafts option")), (NOTHING, ["Drafts"]))
+            # a first visitor's cell
+            page.waits(lambda: page.run(SHOWN)[0].startswith("; Prints a text"))
+            self.assertEqual((page.run(SHOWN)[1:], page.texts("#drafts option")), (NOTHING, ["Drafts"]))
             page.run("setCell('; the answer of ben')")
         with self.server("/user/anna/") as server:
             page = self.page(server)

@@ -9,10 +9,16 @@ export function isOn(lab, panel) {
     return kernel !== null && lab.parts.files.isOurs(kernel.name);
 }
 
-/** Opens the front panel of a notebook's board in a window of its own, one for each board. */
+/** Opens the front panel of a notebook's board in a window of its own, one for each board, which stands beside the notebook. */
 export function open(lab, panel) {
-    const {name, id} = kernelOf(panel), address = lab.parts.files.addressOf(lab, name, "panel.html", {kernel: id});
-    window.open(address, `lab80-panel-${id}`, "width=1250,height=1000");
+    const {name, id} = kernelOf(panel), address = lab.parts.files.addressOf(lab, name, "panel.html", {kernel: id, beside: 1});
+    window.open(address, `lab80-panel-${id}`, rightHalf());
+}
+
+/** A window's place: the right half of the screen. */
+function rightHalf() {
+    const {availLeft = 0, availTop = 0, availWidth, availHeight} = screen, width = Math.floor(availWidth / 2);
+    return `left=${availLeft + availWidth - width},top=${availTop},width=${width},height=${availHeight}`;
 }
 
 /** Adds the button to a notebook, and shows it as long as the kernel is one of this laboratory's. */
