@@ -1,32 +1,24 @@
-//! What rows are compared by.
-use std::alloc::{AllocError, Global};
+//! What rows are compared by. The message about a wrong row is put together here for all of the crate's tests,
+//! since doing so takes many cases of a proof.
+use std::alloc::AllocError;
 use std::process::Abort;
 
-/// What a row tells must be this.
-pub fn expect(rt: &impl Abort, row: &str, told: Result<String, AllocError>, wanted: &str) {
-    match told {
-        Ok(told) => {
-            assert!(rt; told.as_str() == wanted, "{row}: {told}");
-            drop(told);
-        }
+/// What was made, for which there must be memory.
+pub fn made<T: Drop>(rt: &impl Abort, outcome: Result<T, AllocError>) -> T {
+    match outcome {
+        Ok(value) => value,
         Err(_) => rt.panic("there is no memory"),
     }
 }
 
-/// The two parts of a row, with ^ between them.
-pub fn parts(row: &str) -> (&str, &str) {
-    row.split_once("^").unwrap_or((row, ""))
+/// Stops where a row tells something else than it must.
+pub fn expect(rt: &impl Abort, row: &str, told: &str, wanted: &str) {
+    assert!(rt; told == wanted, "{row}: {told}");
 }
 
-/// The middle of three texts, with the others so often before and behind it.
-pub fn nested(
-    alloc: Global,
-    [before, middle, behind]: [&str; 3],
-    count: usize,
-) -> Result<String, AllocError> {
-    let end = behind.repeat(alloc, count)?;
-    let mut all = before.repeat(alloc, count)?;
-    all.push_str(middle)?;
-    all.push_str(end.as_str())?;
-    Ok(all)
+/// The same of what was made, for which there must be memory.
+pub fn expect_made(rt: &impl Abort, row: &str, told: Result<String, AllocError>, wanted: &str) {
+    let told = made(rt, told);
+    expect(rt, row, told.as_str(), wanted);
+    drop(told);
 }

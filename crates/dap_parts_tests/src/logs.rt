@@ -1,73 +1,64 @@
-//! Logs of inputs, and which saved moments stay.
-use crate::inputs::typed;
-use crate::play::Live;
-use dap_history::fault::LogFault;
-use dap_history::laws::{
-    back_and_forth, log_splits, moments_are_near, run_goes_on, run_is_made_again,
-};
-use dap_history::log::Log;
-use dap_history::saved::{UNIT, stays};
-use dap_search::laws::{
-    conditions_only_add, hits_are_counted_in_parts, hits_are_taken_back, slices_count_the_same,
-    statements_ignore_conditions,
-};
-use std::alloc::AllocError;
+//! Log messages that no breakpoint has: an empty one, and those that name what the program doesn't have. What
+//! others tell, and why some can't be read, is played by the clients.
+use crate::checks::expect_made;
+use base_test_kit::rows::parts;
+use dap_log::message::LogMessage;
+use lab_core::lab::Lab;
+use std::alloc::{AllocError, AllocGlobal, Global};
+use std::process::Abort;
 
-/// Appends an input that types so many bytes. What came after this count is forgotten. Gives whether it is
-/// answered so: 0 stands for no fault, 1 for a full log.
-pub fn is_appended(live: &mut Live, count: u64, len: u64, answer: u64) -> Result<bool, AllocError> {
-    let input = typed(live.alloc, len)?;
-    let _ = live.log.forget_after(count);
-    let number = match live.log.append(count, input) {
-        Ok(()) => 0,
-        Err(LogFault::Full) => 1,
-        Err(LogFault::OutOfMemory) => 2,
-    };
-    Ok(number == answer)
+// A message, and its text on a board without a program, where B is 0.
+const ROWS: &str = "\
+^
+at {1/B:x}, {NOWHERE:x}^at Divisor, Undefined
+{1/0+NOWHERE}^Undefined
+";
+
+fn text_of(alloc: Global, lab: &Lab, message: &LogMessage) -> Result<String, AllocError> {
+    Ok(message.text(alloc, lab)?.into_string())
 }
 
-/// Forgets what came after a count. Gives whether so many inputs are later, and any is forgotten if one is.
-pub fn is_cut(log: &mut Log, count: u64, later: u64, left: u64) -> bool {
-    let is_later = log.later_than(count).len() as u64 == later;
-    let is_forgotten = log.forget_after(count);
-    is_later & (is_forgotten == (later > 0)) & (log.entries().len() as u64 == left)
-}
-
-/// Whether a moment that was saved in this unit stays up to the last one, and no longer.
-pub fn stay_until(unit: u64, last: u64) -> bool {
-    let count = unit.wrapping_mul(UNIT);
-    let end = last.wrapping_add(1).wrapping_mul(UNIT);
-    stays(count, count) & stays(count, end.wrapping_sub(1)) & !stays(count, end)
-}
-
-/// Whether so many of the moments that were saved in each unit up to this one stay, and each unit can be
-/// reached from one of them by making at most an eighth of its distance again.
-pub fn are_kept(now: u64, wanted: u64) -> bool {
-    let mut kept = 0u64;
-    let mut nearest = 0;
-    for unit in 0..now.min(10_000) {
-        if stays(unit.saturating_mul(UNIT), now.saturating_mul(UNIT)) {
-            kept = kept.saturating_add(1);
-            nearest = unit;
+// The text of a message, or the fault of a text that is none.
+fn told_of(alloc: Global, lab: &Lab, text: &str) -> Result<String, AllocError> {
+    match LogMessage::parse(alloc, text) {
+        Ok(message) => {
+            let told = text_of(alloc, lab, &message);
+            drop(message);
+            told
         }
-        if unit.saturating_sub(nearest).saturating_mul(8) > now.saturating_sub(unit) {
-            return false;
-        }
+        Err(fault) => format!(in alloc; "{fault}"),
     }
-    kept == wanted
 }
 
-// The laws have nothing to run.
+fn expect_text(rt: &(impl Abort + AllocGlobal), lab: &Lab, row: &str) {
+    let (text, wanted) = parts(row, "^");
+    expect_made(rt, text, told_of(rt.alloc(), lab, text), wanted);
+}
+
+fn expect_texts(rt: &(impl Abort + AllocGlobal), lab: &Lab) {
+    for row in ROWS.lines() {
+        expect_text(rt, lab, row);
+    }
+}
+
+// Whether the empty message names what the program doesn't have.
+fn is_empty_undefined(rt: &(impl Abort + AllocGlobal), lab: &Lab) -> bool {
+    match LogMessage::parse(rt.alloc(), "") {
+        Ok(message) => {
+            let is_undefined = message.is_undefined(lab);
+            drop(message);
+            is_undefined
+        }
+        Err(_) => rt.panic("an empty message"),
+    }
+}
+
 #[test]
-fn laws_can_be_called() {
-    run_is_made_again();
-    run_goes_on();
-    log_splits();
-    moments_are_near();
-    back_and_forth();
-    conditions_only_add();
-    statements_ignore_conditions();
-    hits_are_counted_in_parts();
-    slices_count_the_same();
-    hits_are_taken_back();
+fn log_messages_have_texts(rt: HostRuntime) {
+    let Ok(lab) = Lab::new(rt.alloc()) else {
+        rt.panic("there is no memory")
+    };
+    expect_texts(&rt, &lab);
+    assert!(rt; !is_empty_undefined(&rt, &lab));
+    drop(lab);
 }

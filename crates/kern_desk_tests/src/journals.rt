@@ -1,6 +1,7 @@
 //! Compares journals with the recorded calls, and replays them on a new kernel.
 
-use crate::turns::{Row, Turn, act, expect_at};
+use crate::checks::expect_at;
+use crate::turns::{Row, Turn, act};
 use kern_core::kernel::Kernel;
 use kern_desk::desks::MOST_ENTRIES;
 use kern_desk::seated::Seated;

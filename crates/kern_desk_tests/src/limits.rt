@@ -1,8 +1,9 @@
 //! The limits of a kernel: how many posts are kept, and how many entries a journal has.
+use crate::checks::expect_at;
 use crate::journals::new_kernel;
 use crate::outcomes::Outcome;
 use crate::seats::run_rows;
-use crate::turns::{Row, TimedAction, Turn, act, expect_at};
+use crate::turns::{Row, TimedAction, Turn, act};
 use jup_wire::channel::Channel;
 use kern_core::fault::KernelFault;
 use kern_core::kernel::Kernel;

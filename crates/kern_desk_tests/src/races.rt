@@ -1,10 +1,11 @@
 //! Calls of several threads at once.
 ghost use Rattle.std.specs.Prelude.{◌≡◌, ◌<◌, All, IfSome};
 
+use crate::checks::expect_at;
 use crate::journals::{Entry, merge, replay};
 use crate::outcomes::Outcome;
 use crate::players::{Part, Player, Script};
-use crate::turns::{Turn, expect_at};
+use crate::turns::Turn;
 use jup_wire::channel::Channel;
 use kern_desk::desks::{MOST_ENTRIES, close_desk, open_desk};
 use kern_desk::seated::{Desk, Pass, Seated};

@@ -1,9 +1,10 @@
 //! Calls of several seats, one after the other.
 ghost use Rattle.std.specs.Prelude.{◌≡◌, ◌≤◌, All};
 
+use crate::checks::expect_at;
 use crate::journals::{Entry, check_rows};
 use crate::outcomes::{Outcome, outcome_of};
-use crate::turns::{Row, Turn, expect_at, make};
+use crate::turns::{Row, Turn, make};
 use dap_answers::answer::{Body, Outcome as DebugOutcome};
 use jup_wire::channel::Channel;
 use kern_core::call::Reply;

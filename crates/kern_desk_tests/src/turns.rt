@@ -40,12 +40,6 @@ impl Turn {
     }
 }
 
-/// Fails the test unless something holds. The message names it and a number. All messages are put together
-/// here, since doing so takes many cases of a proof.
-pub fn expect_at<R: Abort>(rt: &R, holds: bool, what: &str, number: u64) {
-    assert!(rt; holds, "{what} {number}");
-}
-
 /// Makes a call at a desk.
 pub fn make<R: Wait + Abort>(
     rt: &R,

@@ -1,9 +1,8 @@
-//! What fails a test.
-
+//! What rows are compared by. The message about a wrong row is put together here for all of the crate's tests,
+//! since doing so takes many cases of a proof.
 use std::process::Abort;
 
-/// Fails the test unless something holds. The message says what was otherwise, with a number. All such
-/// messages are put together here, since doing so takes many cases of a proof.
-pub fn expect_at<R: Abort>(rt: &R, holds: bool, otherwise: &str, number: usize) {
-    assert!(rt; holds, "{otherwise} {number}");
+/// Stops where something isn't as it must be, with what is otherwise and a number.
+pub fn expect_at(rt: &impl Abort, is_so: bool, otherwise: &str, number: u64) {
+    assert!(rt; is_so, "{otherwise} {number}");
 }

@@ -54,7 +54,7 @@ pub fn call_of(alloc: Global, action: Action, unix_seconds: u64) -> Result<Call,
             arrive_call(alloc, connection, request, unix_seconds)
         }
         Action::Send(connection, channel, kind, content) => {
-            let request = request_sent(alloc, channel, kind, content)?;
+            let request = request_sent(alloc, channel, "m-1", kind, content)?;
             arrive_call(alloc, connection, request, unix_seconds)
         }
         Action::Slice => Ok(Call::Slice { unix_seconds }),
@@ -80,7 +80,8 @@ fn subscribe_call(alloc: Global, connection: u32, unix_seconds: u64) -> Result<C
     })
 }
 
-fn arrive_call(
+/// The call of a request that comes on a connection at this moment.
+pub fn arrive_call(
     alloc: Global,
     connection: u32,
     request: Request,
@@ -108,15 +109,17 @@ fn request_for(alloc: Global, question: Question) -> Result<Request, AllocError>
     })
 }
 
-// The request of a message, which is opened and read as if it had come over a wire.
-fn request_sent(
+/// The request of a message with this number and type, and with its content as JSON in which `'` stands for
+/// `"`: it is opened and read as if it had come over a wire.
+pub fn request_sent(
     alloc: Global,
     channel: Channel,
+    id: &str,
     kind: &str,
     content: &str,
 ) -> Result<Request, AllocError> {
     let header = format!(in alloc;
-        "{{\"msg_id\":\"m-1\",\"msg_type\":\"{kind}\",\"session\":\"anna\"}}"
+        "{{\"msg_id\":\"{id}\",\"msg_type\":\"{kind}\",\"session\":\"anna\"}}"
     )?;
     let content = content.replace(alloc, '\'', "\"")?;
     let mut identities = Frames::new(alloc);

@@ -1,13 +1,13 @@
 //! Boards on which the undefined opcodes act, and boards on which they don't.
+use crate::told::expect_plays;
 use i80_base::board::Board::{Aliases, Strict};
 use lab_shown::step::StepKind::{Out, Over};
 use lab_test_kit::ask::Ask::{Code, Frames, Source};
+use lab_test_kit::script::Play;
 use lab_test_kit::script::Step::{
     Attach, Debug, Frame, Instruction, Interrupt, Line, Lines, Load, Pause, Registers, Reset,
     Resume, SetBoard, Show, Slice, Start,
 };
-use lab_test_kit::script::{Play, wrong_plays};
-use std::alloc::AllocError;
 use std::rt::HostRuntime;
 
 /// A jump by CB to a call by DD, whose routine returns by D9.
@@ -192,8 +192,6 @@ END MAIN
 ];
 
 #[test]
-fn undefined_opcodes_act_where_they_are_to(rt: HostRuntime) -> Result<(), AllocError> {
-    let wrong = wrong_plays(rt.alloc(), PLAYS)?;
-    assert!(rt; wrong.is_empty(), "{wrong}");
-    Ok(())
+fn undefined_opcodes_act_where_they_are_to(rt: HostRuntime) {
+    expect_plays(&rt, PLAYS);
 }

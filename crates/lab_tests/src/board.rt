@@ -3,11 +3,12 @@
 ghost use Rattle.std.specs.Prelude.{All};
 ghost use Rattle.lab_core.specs.Events.{Fits};
 
+use crate::told::expect_plays;
 use lab_core::answer::{Answers, EventsFault};
 use lab_core::event::Event;
 use lab_core::lab::Lab;
 use lab_core::laws::{applies_as_given, one_answer};
-use lab_test_kit::script::{Play, Step, wrong_plays};
+use lab_test_kit::script::{Play, Step};
 use lab_test_kit::told::put_told;
 use std::alloc::AllocError;
 use std::rt::HostRuntime;
@@ -223,10 +224,8 @@ refused: the path has another text
 ];
 
 #[test]
-fn boards_answer(rt: HostRuntime) -> Result<(), AllocError> {
-    let wrong = wrong_plays(rt.alloc(), PLAYS)?;
-    assert!(rt; wrong.is_empty(), "{wrong}");
-    Ok(())
+fn boards_answer(rt: HostRuntime) {
+    expect_plays(&rt, PLAYS);
 }
 
 fn put_answers(

@@ -1,5 +1,6 @@
 //! Calls as tests write them, in turn on a new board.
 
+use crate::checks::expect;
 use i80_base::flags::Flags;
 use i80_exec::registers::{Interrupts, Registers};
 use lab_core::lab::Lab;
@@ -216,10 +217,11 @@ fn put_all_wrong(alloc: Global, plays: &[Play], wrong: &mut String) -> Result<()
 }
 
 /// Expects each of these plays to show its lines. The message is what those are about that show others, and
-/// what they show. It is put together here for all tests, since doing so takes many cases of a proof.
+/// what they show.
 pub fn expect_right<R: Abort>(rt: &R, alloc: Global, plays: &[Play]) -> Result<(), AllocError> {
     let mut wrong = String::new(alloc);
     put_all_wrong(alloc, plays, &mut wrong)?;
-    assert!(rt; wrong.is_empty(), "{wrong}");
+    expect(rt, "other lines", wrong.as_str(), "");
+    drop(wrong);
     Ok(())
 }

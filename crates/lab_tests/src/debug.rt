@@ -1,6 +1,6 @@
 //! What a debugger is answered: stops, Steps, breakpoints and views.
 
-use crate::plays::expect_plays;
+use crate::told::expect_plays;
 use lab_shown::step::StepKind::{In, Out, Over};
 use lab_test_kit::ask::Ask::{Code, Frames, Info, Scopes, Source, Variables};
 use lab_test_kit::script::Play;

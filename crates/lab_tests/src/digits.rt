@@ -1,6 +1,6 @@
 //! A change by hand to a value of a thousand digits.
 
-use crate::plays::expect_told;
+use crate::told::expect_told;
 use lab_core::event::Event;
 use lab_core::lab::Lab;
 use lab_test_kit::script::{poke, tell_event};
@@ -57,6 +57,5 @@ Poked 000H
 fn values_of_a_thousand_digits_are_read(rt: HostRuntime) {
     let mut told = String::new(rt.alloc());
     let put = tell_on_new(rt.alloc(), &mut told);
-    expect_told(&rt, put.is_ok() && told.as_str() == TOLD, told.as_str());
-    drop(told);
+    expect_told(&rt, "a thousand digits", put, told, TOLD);
 }

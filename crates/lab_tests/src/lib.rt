@@ -1,6 +1,7 @@
-// The tests of the board, apart from its crates: a crate is proved once more with the tests that stand in it.
-// Boards over a few events and over many, on which undefined opcodes act and on which they don't; runs in
-// slices of several lengths against the same runs step by step.
+// The tests of the board: its parts by themselves (live frames, origins of loads, breakpoints, views); what
+// events and a debugger's requests are answered; changes by hand, slices that end at marks, and moments to
+// which a run is put back; many events; and runs in slices, and chance runs, against plain ones. They stand
+// above the crates that they test, since a crate is proved once more with each test that stands in it.
 #![tactic(auto)]
 
 #[cfg(test)]
@@ -13,6 +14,8 @@ mod bursts;
 mod call;
 #[cfg(test)]
 mod changes;
+#[cfg(test)]
+mod checks;
 #[cfg(test)]
 mod debug;
 #[cfg(test)]
@@ -27,8 +30,6 @@ mod marks;
 mod moments;
 #[cfg(test)]
 mod plain;
-#[cfg(test)]
-mod plays;
 #[cfg(test)]
 mod pokes;
 #[cfg(test)]

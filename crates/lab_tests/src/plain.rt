@@ -3,7 +3,7 @@
 ghost use Rattle.std.specs.Prelude.{IfOk};
 ghost use Rattle.lab_core.specs.Events.{Fits};
 
-use crate::plays::expect_told;
+use crate::told::expect_told;
 use i80_exec::registers::{Registers, Stepped};
 use lab_core::event::{Event, StepRequest};
 use lab_core::lab::Lab;
@@ -236,6 +236,5 @@ fn tell_on_new(alloc: Global, told: &mut String) -> Result<(), AllocError> {
 fn frames_are_those_of_the_rule(rt: HostRuntime) {
     let mut told = String::new(rt.alloc());
     let put = tell_on_new(rt.alloc(), &mut told);
-    expect_told(&rt, put.is_ok() && told.is_empty(), told.as_str());
-    drop(told);
+    expect_told(&rt, "other frames", put, told, "");
 }

@@ -1,6 +1,6 @@
 //! Changes of a stopped run's machine by hand: which places and values there are, and what a change leaves.
 use crate::debug::{CALL, RECURSION};
-use crate::plays::expect_plays;
+use crate::told::expect_plays;
 use lab_shown::step::StepKind::{In, Out, Over};
 use lab_test_kit::ask::Ask::{Frames, Variables};
 use lab_test_kit::script::Step::{

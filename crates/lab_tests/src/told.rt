@@ -1,8 +1,10 @@
-//! What a play shows.
-use std::alloc::AllocError;
+//! What a test shows, and what it must.
+use crate::checks::{expect, expect_made};
+use lab_test_kit::script::{Play, wrong_plays};
+use std::alloc::{AllocError, AllocGlobal};
 use std::process::Abort;
 
-/// Stops where a play shows something else than it must.
+/// Stops where something else is told than what must be.
 pub fn expect_told(
     rt: &impl Abort,
     about: &str,
@@ -10,7 +12,14 @@ pub fn expect_told(
     told: String,
     wanted: &str,
 ) {
-    let is_so = put.is_ok() && told.as_str() == wanted;
-    assert!(rt; is_so, "{about}: {told}");
+    match put {
+        Ok(()) => expect(rt, about, told.as_str(), wanted),
+        Err(_) => rt.panic("there is no memory"),
+    }
     drop(told);
+}
+
+/// Stops where a play shows other lines.
+pub fn expect_plays(rt: &(impl Abort + AllocGlobal), plays: &[Play]) {
+    expect_made(rt, "other lines", wrong_plays(rt.alloc(), plays), "");
 }

@@ -6,7 +6,6 @@ ghost use Rattle.kern_host.specs.Guests.{IsComing};
 
 use crate::again::{TWICE, again, fail, tell_want};
 use crate::answers::name_of;
-use crate::host_gates::{InGate, OutGate, WorkGate};
 use crate::host_replay::{MOST, SCRIPTS, Script, sent_to};
 use crate::made::new_kernel;
 use anyhow::{Result, bail};
@@ -18,12 +17,19 @@ use kern_host::guest::Guest;
 use kern_host::host::{Hosted, host};
 use kern_host::server::Seal;
 use kern_net::end::PumpEnd;
+use kern_net_kit::gates::{InGate, OutGate, Quiet, UpTo, WorkGate};
 use std::alloc::{AllocError, Global};
 use std::rt::Clock;
 use std::sync::Wait;
 use std::thread::Threads;
 
-type MemoryGuest = Guest<Source, Sink, InGate, OutGate>;
+type MemoryGuest = Guest<Source, Sink, InGate<Quiet>, OutGate<UpTo>>;
+
+// The threads never wait for one another: their gates say no as soon as there is nothing to do.
+const AT_ONCE: UpTo = UpTo {
+    befores: u64::MAX,
+    idles: 0,
+};
 
 // `host` serves no more.
 const MOST_GUESTS: usize = 511;
@@ -37,12 +43,8 @@ fn guest_of(alloc: Global, script: Script) -> Result<MemoryGuest, AllocError>
         script.channel,
         Source::new(bytes, 4096, 9999),
         Sink::new(alloc, 1 << 20, 9999),
-        InGate {
-            wakes: 0,
-            own_wakes: 0,
-            due: None,
-        },
-        OutGate::new(),
+        InGate::new(Quiet),
+        OutGate::new(AT_ONCE),
     ))
 }
 
@@ -69,7 +71,7 @@ fn host_once<R: Threads + Wait + Clock + Sync>(
     if guests.len() > MOST_GUESTS {
         return Err(kernel);
     }
-    let mut gate = WorkGate::new();
+    let mut gate = WorkGate::new(AT_ONCE);
     let seal = Seal {
         key: b"",
         session: "S",

@@ -11,8 +11,6 @@ mod assembler;
 mod board;
 mod desk;
 mod host;
-mod host_bytes;
-mod host_gates;
 mod host_replay;
 mod kernel;
 mod made;

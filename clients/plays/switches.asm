@@ -1,0 +1,5 @@
+       ORG 100H
+MAIN:  IN 2
+       OUT 1
+       HLT
+       END MAIN

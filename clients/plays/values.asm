@@ -1,0 +1,12 @@
+COUNT  EQU 5
+BC     EQU 7
+WORD   EQU 9
+       ORG 100H
+BEGIN: MVI A,12H
+       LXI H,TABLE
+       LXI SP,TABLE
+       LXI D,0FFFFH
+       ADD M
+       HLT
+TABLE: DB 41H,56H,34H,12H
+       END BEGIN
