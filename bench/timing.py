@@ -7,12 +7,12 @@ from contextlib import contextmanager
 from pathlib import Path
 
 TOP = Path(__file__).resolve().parent.parent
-PROGRAM = TOP / "crates/bench/out/bench"
+PROGRAM = TOP / "bench/out/bench"
 ROUNDS = 5
 
 
 def build():
-    subprocess.run([TOP / "build", "bench"], check=True)
+    subprocess.run([TOP / "bench/build"], check=True)
 
 
 class Goals:
