@@ -1,10 +1,8 @@
-//! The socket of a connection of the heartbeat, to read from and to write to.
+//! Reading the heartbeat.
 use crate::peer_stream::{PeerStream, Watch, lift_timeout};
 use crate::port::Port;
-use crate::slots::{PortSlot, Slots};
-use kern_pace::eviction::Stage;
 use std::io;
-use std::io::{Read, Write};
+use std::io::Read;
 use std::net::TcpStream;
 use std::rt::Clock;
 use std::sync::Wait;
@@ -117,50 +115,5 @@ impl<'a, R: Wait + Clock> Read for BeatStream<'a, R> {
         let count = self.peer.read(&mut buffer[..most])?;
         self.note_opening(&buffer[..count]);
         Ok(count)
-    }
-}
-
-/// The socket of a connection of the heartbeat, to which it is written. What is sent once the peer has asked
-/// for something is a beat, which is noted in the slots: half a message is none, however often more of it
-/// comes.
-#[derive(Drop)]
-pub struct BeatSink<'a, R: Wait + Clock> {
-    stream: &'a TcpStream,
-    is_asked: &'a AtomicBool,
-    rt: &'a R,
-    slots: &'a Slots,
-    slot: PortSlot,
-}
-
-impl<'a, R: Wait + Clock> BeatSink<'a, R> {
-    /// The socket of the connection in a slot; `is_asked` is that of its `BeatStream`.
-    pub fn new(
-        rt: &'a R,
-        slots: &'a Slots,
-        slot: PortSlot,
-        is_asked: &'a AtomicBool,
-        stream: &'a TcpStream,
-    ) -> BeatSink<'a, R> {
-        BeatSink {
-            stream,
-            is_asked,
-            rt,
-            slots,
-            slot,
-        }
-    }
-}
-
-impl<'a, R: Wait + Clock> Write for BeatSink<'a, R> {
-    fn write(&mut self, bytes: &[u8]) -> io::Result<usize> {
-        let count = self.stream.write(bytes)?;
-        if self.is_asked.load(Ordering::SeqCst) {
-            self.slots.reach(self.rt, self.slot, Stage::Beats);
-        }
-        Ok(count)
-    }
-
-    fn flush(&mut self) -> io::Result<()> {
-        self.stream.flush()
     }
 }
