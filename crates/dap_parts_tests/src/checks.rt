@@ -1,5 +1,5 @@
-//! What rows are compared by. The message about a wrong row is put together here for all of the crate's tests,
-//! since doing so takes many cases of a proof.
+//! What rows are compared by. The message about a wrong row is put together here for all of the crate's
+//! tests, since doing so takes many cases of a proof.
 use std::alloc::AllocError;
 use std::process::Abort;
 

@@ -1,5 +1,5 @@
-//! What rows are compared by. The message about a wrong row is put together here for all of the crate's tests,
-//! since doing so takes many cases of a proof.
+//! What rows are compared by. The message about a wrong row is put together here for all of the crate's
+//! tests, since doing so takes many cases of a proof.
 use std::process::Abort;
 
 /// Stops where something isn't as it must be, with what is otherwise and a number.
