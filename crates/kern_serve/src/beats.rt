@@ -60,12 +60,12 @@ impl<'a, R: Wait + Clock> Write for BeatSink<'a, R> {
 }
 
 /// Serves a connection of the heartbeat until it ends.
-pub fn serve_heartbeat<R: Host>(
-    rt: &R,
+pub fn serve_heartbeat<'a, R: Host>(
+    rt: &'a R,
     alloc: Global,
-    shared: &Shared,
+    shared: &'a Shared,
     slot: PortSlot,
-    stream: &TcpStream,
+    stream: &'a TcpStream,
 ) {
     // Nothing is signed on the heartbeat.
     let (has_met, is_heard) = (AtomicBool::new(false), AtomicBool::new(false));
