@@ -60,12 +60,12 @@ impl<'a, R: Wait + Clock> Write for BeatSink<'a, R> {
 }
 
 /// Serves a connection of the heartbeat until it ends.
-pub fn serve_heartbeat<'a, R: Host>(
-    rt: &'a R,
+pub fn serve_heartbeat<R: Host>(
+    rt: &R,
     alloc: Global,
-    shared: &'a Shared,
+    shared: &Shared,
     slot: PortSlot,
-    stream: &'a TcpStream,
+    stream: &TcpStream,
 ) {
     // Nothing is signed on the heartbeat.
     let (has_met, is_heard) = (AtomicBool::new(false), AtomicBool::new(false));
@@ -76,7 +76,8 @@ pub fn serve_heartbeat<'a, R: Host>(
         has_met: &has_met,
         is_heard: &is_heard,
     };
+    let sink = BeatSink::new(watch.rt, &shared.slots, slot, &is_asked, stream);
     let mut from = StdInlet::new(BeatStream::new(watch, &is_asked, stream));
-    let mut to = StdOutlet::new(BeatSink::new(rt, &shared.slots, slot, &is_asked, stream));
+    let mut to = StdOutlet::new(sink);
     let _ = heartbeat(alloc, &mut from, &mut to);
 }
