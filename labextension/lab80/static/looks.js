@@ -3,7 +3,7 @@
 const LOOKS = `
     body {
         --lab80-label: #1f5fae; --lab80-keyword: #2c6b3f; --lab80-directive: #7a3e9d; --lab80-register: #a3400c;
-        --lab80-number: #2c7a42; --lab80-string: #a3400c; --lab80-comment: #6d7480; --lab80-bad: #b3261e;
+        --lab80-number: #2c7a42; --lab80-string: #a3400c; --lab80-comment: #636a76; --lab80-bad: #b3261e;
         --lab80-marked: #f9d6d2; --lab80-faulty: #fdf0ef; --lab80-note: #6b5300;
     }
     body[data-jp-theme-light="false"] {
