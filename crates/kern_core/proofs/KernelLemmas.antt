@@ -1,6 +1,6 @@
--- A kernel's fields represent its entries again after one more.
+-- A kernel's fields represent its entries again after one more, and a kernel without entries some state.
 use Rattle.std.proofs.Common.{◌≡◌, ◌≢◌, ◌∙◌, ℕ, ◌<◌, true, false, List, [], ◌∷◌, ◌++◌}
-use Rattle.std.proofs.Common.{length, Result, Err, sym, ap, subst, arith, length-append}
+use Rattle.std.proofs.Common.{length, Result, Ok, Err, refl, sym, ap, subst, arith, length-append}
 use Rattle.std.proofs.lemmas.Bool.{false≢true}
 use Rattle.std.proofs.lemmas.List.Sums.{fold-append}
 use Rattle.kern_core.specs.declared.call.Call.{Call}
@@ -9,7 +9,8 @@ use Rattle.kern_core.specs.declared.fault.KernelFault.{KernelFault}
 use Rattle.kern_core.specs.declared.fault.KernelFault.TheVariants.{OutOfMemory}
 use Rattle.kern_core.specs.States.{kernel_before_calls, after}
 use Rattle.kern_core.specs.Turns.{turn, next, state_after}
-use Rattle.kern_core.specs.Represents.{KernelFields, RepresentsKernel, TakesTurn}
+use Rattle.kern_core.specs.Represents.{KernelFields, RepresentsKernel, RepresentsSomeState}
+use Rattle.kern_core.specs.Represents.{TakesTurn}
 use Rattle.kern_core.specs.Kernels.{IsKept, is_entry}
 
 state_after-more : (calls : List Call) (call : Call)
@@ -42,3 +43,10 @@ kept_more old new calls limit call answer kept room takes entry =
       fits = omega (arith, more);
       bounded = kept.bounded;
     }
+
+-- fields that represent some state still do after a call
+pub some_state : (old new : KernelFields) (call : Call) (answer : Result Reply KernelFault)
+    → RepresentsSomeState old → TakesTurn (turn call) old answer new → RepresentsSomeState new
+some_state old new call (Ok reply) (s, represents) takes =
+    (after (turn call s), (takes.0 s represents (had_memory (Ok reply) refl)).1)
+some_state old new call (Err fault) some takes = subst RepresentsSomeState (sym takes.1.1) some

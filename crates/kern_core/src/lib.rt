@@ -2,9 +2,11 @@
 // the definitions in specs/ say for the calls before it, which are the kernel's journal. A call that fails
 // because memory runs out or the journal is full leaves no entry and changes nothing; any other refused
 // call is an entry, and changes nothing else. A slice allocates all that it needs before the board's first
-// step. Values with many parts are dropped by a call, which keeps proofs short.
+// step. A `BareKernel` makes the same turns, and keeps no journal. Values with many parts are dropped by a
+// call, which keeps proofs short.
 #![tactic(auto)]
 
+pub mod bare;
 pub mod call;
 pub mod fault;
 pub mod kernel;

@@ -1,6 +1,7 @@
 //! A kernel without its journal.
-ghost use Rattle.std.specs.Prelude.{◌≡◌, IfOk};
-ghost use Rattle.kern_core.specs.States.{kernel_before_calls};
+ghost use Rattle.std.specs.Prelude.{◌≡◌, List, IfOk, IsTrue, length, option_map};
+ghost use Rattle.kern_post.specs.Posts.{kept_post};
+ghost use Rattle.kern_core.specs.States.{kernel_before_calls, KernelState as KernelStateOf};
 ghost use Rattle.kern_core.specs.Turns.{turn};
 ghost use Rattle.kern_core.specs.Represents.{RepresentsKernel, RepresentsSomeState, TakesTurn, HasRoom};
 
@@ -13,10 +14,14 @@ use crate::call::{Arrival, Call, Reply, Subscription};
 use crate::fault::KernelFault;
 use kern_exec::executions::Executions;
 use kern_peers::peers::Peers;
+use kern_post::post::Post;
 use kern_post::store::Store;
 use lab_core::lab::Lab;
 use std::alloc::{AllocError, Global};
 use std::marker::Model;
+
+/// The most that is counted of posts and executions.
+const MOST_COUNTED: u64 = (1 << 63) - 1;
 
 /// A kernel without its journal: the board, the connections, the executions, and the posts that are kept.
 #[derive(Drop)]
@@ -67,6 +72,30 @@ impl KernelState {
                 Err(AllocError)
             }
         }
+    }
+
+    /// Whether one more call can't make a count overflow.
+    pub fn has_room(&self) -> bool
+        ensures { IsTrue result → HasRoom self.now }
+    {
+        self.store.post_count() < MOST_COUNTED - 8
+            && self.peers.joined_count() < u32::MAX
+            && self.executions.count() < MOST_COUNTED
+    }
+
+    /// How many posts there were so far.
+    pub fn post_count(&self) -> u64
+        ensures { (s : KernelStateOf) → RepresentsKernel self.now s → result ≡ length s.posts }
+    {
+        self.store.post_count()
+    }
+
+    /// The post with a number, if it is kept.
+    pub fn post(&self, number: u64) -> Option<&Post>
+        ensures { (s : KernelStateOf) → RepresentsKernel self.now s
+            → option_map (λ post. post.now) result ≡ kept_post number s.posts }
+    {
+        self.store.post(number)
     }
 
     /// Makes a call.

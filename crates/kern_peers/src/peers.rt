@@ -47,6 +47,13 @@ impl Peers {
         }
     }
 
+    /// How many connections ever joined.
+    pub fn joined_count(&self) -> u32
+        ensures { result ≡ self.now.joined }
+    {
+        self.joined
+    }
+
     /// The connection with this number, if it is open.
     pub fn get(&self, number: u32) -> Option<&Peer>
         ensures { option_map (λ p. p.now) result ≡ peer_at number self.now.peers }

@@ -1,13 +1,14 @@
 -- Posting one letter after the other, and fetching from the posts that are kept.
 use Rattle.std.proofs.Common.{◌≡◌, ◌∙◌, ℕ, ◌+◌, ◌-◌, ◌<◌, List, [], ◌∷◌, ◌++◌, length, take, drop, get_or}
+use Rattle.std.proofs.Common.{zero, suc, zero-add, ◌≤◌, max, slice_get, None, nat_lt, true, false}
 use Rattle.std.proofs.Common.{min, refl, ap, arith, append_assoc, length-append, length-drop, Bool, inl, inr}
 use Rattle.std.proofs.lemmas.List.{take_more, drop_all, take_all, drop-drop}
 use Rattle.std.proofs.lemmas.List.Elements.{filter-append}
-use Rattle.std.proofs.lemmas.Bool.{cases_lt}
+use Rattle.std.proofs.lemmas.Bool.{cases_lt, lt-ltb, le-ltb}
 use Rattle.std.specs.List.{filter}
 use Rattle.kern_post.specs.declared.post.Letter.{Letter}
 use Rattle.kern_post.specs.declared.post.Post.{Post}
-use Rattle.kern_post.specs.Posts.{as_posts, with_posts}
+use Rattle.kern_post.specs.Posts.{as_posts, with_posts, first_kept, kept_post}
 
 -- posting the first letter, and then the others after it
 pub posted-cons : (unix_seconds : ℕ) (l : Letter) (ls : List Letter) (posts : List Post)
@@ -55,3 +56,26 @@ looked_at posts kept from skipped start count is late skips starts counts =
     ∙ ap (λ n. drop n posts) (omega arith)) in
     rw counts (take_min (length kept - start) 64 (drop start kept) rest)
     ∙ ap (take 64) (begins ∙ whole)
+
+slice_get-drop : {A : Type 0} (n : ℕ) (xs : List A) (i : ℕ) → slice_get (drop n xs) i ≡ slice_get xs (n + i)
+slice_get-drop zero xs i = rw zero-add refl
+slice_get-drop (suc n) [] i = refl
+slice_get-drop (suc n) (x ∷ xs) i =
+    let e : suc n + i ≡ suc (n + i) = omega arith in rw e (slice_get-drop n xs i)
+
+-- the post with a number stands at its place among the posts that are kept
+pub post_at : (posts kept : List Post) (number first : ℕ) → kept ≡ drop (length posts - 4096) posts
+    → first ≡ first_kept (length posts) → first ≤ number
+    → slice_get kept (number - first) ≡ kept_post number posts
+post_at posts kept number first is starts late =
+    let not_before : nat_lt number (first_kept (length posts)) ≡ false = le-ltb _ _ (omega arith) in
+    rw not_before (ap (λ xs. slice_get xs (number - first)) is
+    ∙ (slice_get-drop (length posts - 4096) posts (number - first)
+    ∙ ap (slice_get posts) (omega arith)))
+
+-- no post before the first is kept
+pub post_before : (posts : List Post) (number first : ℕ) → first ≡ first_kept (length posts)
+    → number < first → None ≡ kept_post number posts
+post_before posts number first starts early =
+    let before : nat_lt number (first_kept (length posts)) ≡ true = lt-ltb _ _ (omega arith) in
+    rw before refl

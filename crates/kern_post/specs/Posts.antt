@@ -1,5 +1,6 @@
 -- All posts as one list, which part of it is kept, and which part a fetch returns.
 use Rattle.std.specs.Prelude.{◌≡◌, ℕ, ◌+◌, ◌-◌, ◌==◌, List, [], ◌∷◌, ◌++◌, length, take, drop, Bool, min, max}
+use Rattle.std.specs.Prelude.{Option, None, nat_lt, slice_get, if◌then◌else◌}
 use Rattle.std.specs.List.{filter, list_any}
 use Rattle.kern_post.specs.declared.post.Letter.{Letter}
 use Rattle.kern_post.specs.declared.post.Post.{Post}
@@ -21,6 +22,11 @@ is_to connection p = list_any (λ k. k == connection) p.letter.envelope.to
 -- the first number that is kept, if the last is n
 abbrev pub first_kept : ℕ → ℕ
 first_kept n = max 1 (n - 4095)
+
+-- the post with this number, if it is kept
+abbrev pub kept_post : ℕ → List Post → Option Post
+kept_post number posts =
+    if nat_lt number (first_kept (length posts)) then None else slice_get posts (number - 1)
 
 -- those to the connection, of the posts with the numbers from, from + 1, .. from + 63
 abbrev pub posts_between : ℕ → ℕ → List Post → List Post

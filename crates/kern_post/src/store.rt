@@ -1,10 +1,11 @@
 //! The posts that are kept.
 ghost use Rattle.std.specs.Prelude.{◌≡◌, ◌<◌, ◌≤◌, ◌+◌, ◌-◌, ◌^◌, ◌++◌, [], ◌∷◌, List, length, drop};
-ghost use Rattle.std.specs.Prelude.{IfOk, OnOk};
+ghost use Rattle.std.specs.Prelude.{IfOk, OnOk, option_map, slice_get};
 ghost use Rattle.std.specs.VecDeque.{deque_capacity};
 ghost use Rattle.std.specs.List.{filter};
 ghost use Rattle.kern_post.specs.declared.post.Post.{Post};
 ghost use Rattle.kern_post.specs.Posts.{Keeps, with_posts, first_kept, posts_between, next_from, is_to};
+ghost use Rattle.kern_post.specs.Posts.{kept_post};
 
 use crate::letters::Letters;
 use crate::post::{Letter, Post, Posts};
@@ -102,6 +103,25 @@ impl Store {
             → result ≡ first_kept (length posts) }
     {
         self.made - self.kept.len() as u64 + 1
+    }
+
+    /// The post with a number, if it is kept.
+    pub fn post(&self, number: u64) -> Option<&Post>
+        ensures { (posts : List Post) → Keeps posts self.now
+            → option_map (λ post. post.now) result ≡ kept_post number posts }
+    {
+        let first = self.first();
+        if number < first {
+            return None;
+        }
+        self.kept_at((number - first) as usize)
+    }
+
+    // The post at an index of those that are kept.
+    fn kept_at(&self, place: usize) -> Option<&Post>
+        ensures { option_map (λ post. post.now) result ≡ slice_get self.now.kept place }
+    {
+        self.kept.get(place)
     }
 
     // Posts one letter, and drops the oldest post if 4,096 are kept already.
