@@ -1,0 +1,10 @@
+pub mod Answers
+pub mod Ends
+pub mod Items
+pub mod Laws
+pub mod Numbers
+pub mod Opening
+pub mod Outputs
+pub mod Serving
+pub mod Session
+pub mod Steps
