@@ -30,9 +30,13 @@ def item(word, *fields):
     return message(word.encode(), *frames)
 
 
-def request(channel, connection, msg_type, content, moment=MOMENT):
-    header = json.dumps({"msg_id": "1", "msg_type": msg_type, "session": "host"})
-    return item("message", channel, connection, moment, "<IDS|MSG>", "", header, "{}", "{}", json.dumps(content))
+def header(msg_type, msg_id="1"):
+    return json.dumps({"msg_id": msg_id, "msg_type": msg_type, "session": "host"})
+
+
+def request(channel, connection, msg_type, content, moment=MOMENT, msg_id="1"):
+    frames = "<IDS|MSG>", "", header(msg_type, msg_id), "{}", "{}", json.dumps(content)
+    return item("message", channel, connection, moment, *frames)
 
 
 def execute(code, connection=1):
