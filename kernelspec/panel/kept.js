@@ -1,37 +1,19 @@
 // The snapshots of boards that the browser keeps, in a database of its own: 64 KiB of memory are much for localStorage. Only the
 // newest few boards stay. A board is named by its kernel and by the session in the kernel's messages, since a kernel that was
 // restarted has its old name and a new session.
+import {inDatabase} from "./database.js";
 
 // The form of a snapshot; those of another one are passed over.
 export const VERSION = 1;
 
-const MOST_BOARDS = 8, DATABASE = "lab80", STORE = "boards";
+const MOST_BOARDS = 8, STORE = "boards";
+const DATABASE = {name: "lab80", makeStores: database => database.createObjectStore(STORE, {keyPath: "name"})};
 
 // This page's last snapshot, for browsers that keep nothing.
 let own = null;
 
-function opened() {
-    return new Promise((done, fail) => {
-        const request = indexedDB.open(DATABASE, 1);
-        request.onupgradeneeded = () => request.result.createObjectStore(STORE, {keyPath: "name"});
-        request.onsuccess = () => done(request.result);
-        request.onerror = request.onblocked = () => fail(request.error);
-    });
-}
-
 /** Does some work with the store, and waits until it is written. The work returns a request, whose result this returns. */
-async function inStore(mode, work) {
-    const database = await opened();
-    try {
-        return await new Promise((done, fail) => {
-            const transaction = database.transaction(STORE, mode), request = work(transaction.objectStore(STORE));
-            transaction.oncomplete = () => done(request.result);
-            transaction.onabort = transaction.onerror = () => fail(transaction.error);
-        });
-    } finally {
-        database.close();
-    }
-}
+const inStore = (mode, work) => inDatabase(DATABASE, mode, [STORE], transaction => work(transaction.objectStore(STORE)));
 
 /** Keeps a snapshot in place of this board's last one, and drops the oldest boards. If the browser keeps nothing, or its room is
  *  used up, this page alone has it. */

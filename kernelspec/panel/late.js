@@ -5,7 +5,7 @@ import {board, register} from "./board.js";
 import {numberOf} from "./dom.js";
 import {Refusal, line} from "./line.js";
 import {inTurn} from "./queue.js";
-import {fetchJson} from "./server.js";
+import {transport} from "./transport.js";
 
 // The most cells of a notebook that are considered, and the most that the kernel is asked for.
 const MOST_CELLS = 200, MOST_ASKED = 50;
@@ -51,13 +51,7 @@ function longest(words, code, at) {
 /** The code cells of the board's notebook, each {text, count}, those first that ran last. One that runs has no count. Empty cells
  *  are left out: the kernel has the empty text in any case. */
 async function savedCells() {
-    const {content: sessions} = await fetchJson("api/sessions");
-    const isMine = each => each.type === "notebook" && each.kernel && each.kernel.id === line.kernel;
-    const {path} = Array.isArray(sessions) && sessions.find(isMine) || {};
-    if (!path) return [];
-    const {content: file} = await fetchJson(`api/contents/${path.split("/").map(encodeURIComponent).join("/")}?type=notebook`);
-    const {cells} = file && file.content || {};
-    if (!Array.isArray(cells)) return [];
+    const cells = await transport.cells(line.kernel);
     const code = cells.slice(0, MOST_CELLS).filter(each => each.cell_type === "code" && String(each.source).trim());
     const found = code.map(({source, execution_count: count}) => ({text: String(source), count: count || 0}));
     return found.reverse().sort((one, other) => (other.count || Infinity) - (one.count || Infinity) || 0);

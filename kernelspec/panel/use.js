@@ -5,6 +5,7 @@ import {tell} from "./commands.js";
 import {readSetting, saveSetting} from "./dom.js";
 import {isOpen} from "./line.js";
 import {boardName, taking} from "./snapshot.js";
+import {transport} from "./transport.js";
 
 // Milliseconds: between two counts, the most that one adds, since browsers slow hidden pages down, and after how many the page
 // warns.
@@ -15,7 +16,8 @@ let last = 0;
 const SAVE = "Save your work: programs have run on this board for five hours, so its journal may be nearly full, and then the "
     + "kernel starts anew. Once the run is ended or paused, this page keeps a snapshot of the board";
 
-const isBusy = () => isOpen() && taking.session !== "" && board.running === true && !board.stopped && !board.waits;
+const isRunning = () => board.running === true && !board.stopped && !board.waits;
+const isBusy = () => transport.hasJournal && isOpen() && taking.session !== "" && isRunning();
 
 /** Counts the time since the last count if the board was busy then and is now. */
 export function countUse(now = Date.now()) {
