@@ -1,0 +1,122 @@
+"""The lessons as pages of the web site, which `lessons/make --web` writes. web/book has their templates, looks and scripts."""
+import html
+import re
+import struct
+from pathlib import Path
+
+BOOK = Path(__file__).resolve().parent.parent / "web" / "book"
+
+# A block that is a picture alone.
+PICTURE = re.compile(r"!\[([^]]*)\]\(([\w.-]+\.png)\)")
+
+# The fewest lines of tools that are folded, as the classic Notebook folds them.
+LONG_TOOLS = 12
+
+# What a screen reader calls a cell, by its kind.
+NAMES = {
+    "tools": "Tools", "exercise": "Exercise {}", "judge": "The judge of exercise {}", "somebody": "Whether somebody is there",
+}
+
+
+def inline(text):
+    """The text of a block as HTML: code, bold, italics."""
+    parts = text.split("`")
+    for at, part in enumerate(parts):
+        parts[at] = f"<code>{html.escape(part).replace('*', '&#42;')}</code>" if at % 2 else html.escape(part, quote=False)
+    bold = re.sub(r"\*\*(.+?)\*\*", r"<strong>\1</strong>", "".join(parts))
+    return re.sub(r"\*(.+?)\*", r"<em>\1</em>", bold)
+
+
+def anchor(words):
+    """The name of a heading in addresses."""
+    return re.sub(r"[^a-z0-9]+", "-", words.lower()).strip("-")
+
+
+def heading(signs, words):
+    return f'<h{len(signs)} id="{anchor(words)}">{inline(words)}</h{len(signs)}>'
+
+
+def table(text):
+    """A table, of lines with a bar before, between and behind the cells; the second one says that the first is the head."""
+    first, _, *others = [[inline(cell.strip()) for cell in line.strip("|").split("|")] for line in text.split("\n")]
+    head = "".join(f'<th scope="col">{cell}</th>' for cell in first)
+    rows = "\n".join(f"<tr>{''.join(f'<td>{cell}</td>' for cell in row)}</tr>" for row in others)
+    return f"<table>\n<thead><tr>{head}</tr></thead>\n<tbody>\n{rows}\n</tbody>\n</table>"
+
+
+def picture(told, name, content):
+    """A picture, with its size, so that nothing moves when it is there."""
+    width, height = struct.unpack(">II", content[16:24])
+    return f'<p><img src="{name}" alt="{html.escape(told)}" width="{width}" height="{height}" loading="lazy"></p>'
+
+
+class Pages:
+    """The pages of a course, which is a list of lessons: a name, and pairs of a cell and its id. `source` is the folder with the
+    lessons' pictures."""
+
+    def __init__(self, course, source):
+        self.course, self.source = dict(course), source
+        self.titles = {name: re.match(r"# (.*)", cells[0][0].text)[1] for name, cells in course}
+        self.pictures = {}
+
+    def block(self, text):
+        """A block of Markdown as HTML."""
+        if found := re.fullmatch(r"(#{1,3}) (.*)", text):
+            return heading(*found.groups())
+        if text.startswith("|"):
+            return table(text)
+        if text.startswith("- "):
+            return "<ul>\n" + "\n".join(f"<li>{inline(line[2:])}</li>" for line in text.split("\n")) + "\n</ul>"
+        if found := PICTURE.fullmatch(text):
+            told, name = found.groups()
+            self.pictures[name] = (self.source / name).read_bytes()
+            return picture(told, name, self.pictures[name])
+        return f"<p>{inline(text)}</p>"
+
+    def cell(self, cell, its_id):
+        """A cell as HTML."""
+        if not cell.is_code():
+            return "\n".join(self.block(text) for text in re.split(r"\n{2,}", cell.text))
+        kind, number = cell.kind(), its_id.rpartition("-")[2]
+        listing, count = f"<pre><code>{html.escape(cell.text, quote=False)}</code></pre>", cell.text.count("\n") + 1
+        if kind == "tools" and count >= LONG_TOOLS:
+            told = f"All {count} lines: they are to be run, and needn't be read"
+            listing = f"<details><summary>{told}</summary>{listing}</details>"
+        name = NAMES.get(kind, "A cell").format(number)
+        return f'<div class="cell" data-cell="{its_id}" data-kind="{kind}" role="group" aria-label="{name}">{listing}</div>'
+
+    def link(self, name, relation, word):
+        """A link to a lesson, or nothing if there is none."""
+        title = self.titles.get(name)
+        return f'<a rel="{relation}" href="{name}.html" title="{html.escape(title)}">{word}</a>' if title else ""
+
+    def lesson(self, name):
+        """A lesson's page."""
+        names = ["", *self.course, ""]
+        at = names.index(name)
+        text = "\n".join(self.cell(cell, its_id) for cell, its_id in self.course[name] if not cell.teachers)
+        before, after = self.link(names[at - 1], "prev", "Previous"), self.link(names[at + 1], "next", "Next")
+        return filled("lesson.html", name=name, title=html.escape(self.titles[name]), before=before, after=after, text=text)
+
+    def entry(self, name):
+        """A lesson in the table of contents: its title, what it is about, and room for what is done of it."""
+        text = "\n".join(cell.text for cell, _ in self.course[name] if not cell.is_code() and not cell.teachers)
+        parts = [words for words in re.findall(r"(?m)^## (.*)", text) if words not in ("Tools", "Exercises")]
+        links = " · ".join(f'<a href="{name}.html#{anchor(words)}">{inline(words)}</a>' for words in parts)
+        count = sum(cell.kind() == "exercise" for cell, _ in self.course[name])
+        title = f'<a class="title" href="{name}.html">{inline(self.titles[name])}</a>'
+        return f'<li>{title} <span class="done" data-lesson="{name}" data-exercises="{count}"></span>\n<p>{links}</p></li>'
+
+    def files(self):
+        """The content of each file, by its name."""
+        made = {path.name: path.read_bytes() for path in BOOK.iterdir() if path.suffix in (".js", ".css")}
+        made.update({f"{name}.html": self.lesson(name).encode() for name in self.course})
+        entries = "\n".join(self.entry(name) for name in self.course)
+        made["index.html"] = filled("contents.html", lessons=entries).encode()
+        return {**made, **self.pictures}
+
+
+def filled(template, **values):
+    """A template with these values in the place of their names in braces."""
+    text = (BOOK / template).read_text(encoding="utf-8")
+    return re.sub(r"\{(\w+)\}", lambda found: values[found[1]], text)
