@@ -32,8 +32,8 @@ use Rattle.kern_exec.specs.Ends.{ending_of, cut_letters as letters_of_cut, end_l
 use Rattle.kern_exec.specs.Ends.{error_letters, outcome_letters, stream_letters}
 use Rattle.kern_exec.specs.Ends.{input_letters, input_requests, line_envelope, to_stdin}
 use Rattle.kern_exec.specs.Letters.{reply_envelope, between_busy_and_idle}
-use Rattle.kern_core.specs.declared.call.Call.{Call}
-use Rattle.kern_core.specs.declared.call.Call.TheVariants as call
+use Rattle.kern_calls.specs.declared.call.Call.{Call}
+use Rattle.kern_calls.specs.declared.call.Call.TheVariants as call
 use Rattle.kern_core.specs.States.{KernelState, Turn}
 use Rattle.kern_core.specs.Connections.{status_to}
 use Rattle.kern_core.specs.Requests.{cut_of}

@@ -34,9 +34,9 @@ use Rattle.kern_request.specs.declared.request.NeedyRequest.TheVariants as needy
 use Rattle.kern_exec.specs.declared.execution.Execution.{Execution}
 use Rattle.kern_exec.specs.Executions.{Work}
 use Rattle.kern_exec.specs.Boards.{board_after, is_run}
-use Rattle.kern_core.specs.declared.call.Call.{Call}
-use Rattle.kern_core.specs.declared.call.Call.TheVariants as call
-use Rattle.kern_core.specs.declared.call.Reply.TheVariants.{Ended}
+use Rattle.kern_calls.specs.declared.call.Call.{Call}
+use Rattle.kern_calls.specs.declared.call.Call.TheVariants as call
+use Rattle.kern_calls.specs.declared.call.Reply.TheVariants.{Ended}
 use Rattle.kern_core.specs.States.{KernelState, Turn, turn_without_posts}
 use Rattle.kern_core.specs.Requests.{plain_reply, by_reply, answering, is_bounded, performing, refusing}
 use Rattle.kern_core.specs.Slices.{loading, by_start, by_run}

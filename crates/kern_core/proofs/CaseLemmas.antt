@@ -7,11 +7,11 @@ use Rattle.kern_request.specs.declared.request.Request.{Request}
 use Rattle.kern_post.specs.Posts.{first_kept}
 use Rattle.kern_peers.specs.declared.peer.Peer.{Peer}
 use Rattle.kern_peers.specs.Connections.{Connections, peer_at, is_on, is_full, has_no_place}
-use Rattle.kern_core.specs.declared.call.Call.{Call}
-use Rattle.kern_core.specs.declared.call.Call.TheVariants as call
-use Rattle.kern_core.specs.declared.call.Reply.{Reply}
-use Rattle.kern_core.specs.declared.fault.KernelFault.{KernelFault}
-use Rattle.kern_core.specs.declared.fault.KernelFault.TheVariants as fault
+use Rattle.kern_calls.specs.declared.call.Call.{Call}
+use Rattle.kern_calls.specs.declared.call.Call.TheVariants as call
+use Rattle.kern_calls.specs.declared.call.Reply.{Reply}
+use Rattle.kern_calls.specs.declared.fault.KernelFault.{KernelFault}
+use Rattle.kern_calls.specs.declared.fault.KernelFault.TheVariants as fault
 use Rattle.kern_core.specs.States.{KernelState, Turn, refuse_turn, turn_without_posts}
 use Rattle.kern_core.specs.Connections.{by_peer, subscribing, unsubscribe_turn, new_subscription}
 use Rattle.kern_core.specs.Requests.{plain_reply, by_reply}

@@ -42,9 +42,9 @@ use Rattle.kern_exec.specs.Ends.{ending_of, cut_letters as letters_of_cut, error
 use Rattle.kern_exec.specs.Ends.{input_letters, stream_letters, line_envelope, to_stdin, input_requests}
 use Rattle.kern_exec.specs.Ends.{outcome_letters, slice_letters, loading_letters}
 use Rattle.kern_exec.specs.Letters.{publication, between_busy_and_idle}
-use Rattle.kern_core.specs.declared.call.Call.{Call}
-use Rattle.kern_core.specs.declared.call.Call.TheVariants as call
-use Rattle.kern_core.specs.declared.call.Reply.TheVariants as reply
+use Rattle.kern_calls.specs.declared.call.Call.{Call}
+use Rattle.kern_calls.specs.declared.call.Call.TheVariants as call
+use Rattle.kern_calls.specs.declared.call.Reply.TheVariants as reply
 use Rattle.kern_core.specs.States.{KernelState, Turn, refuse_turn, turn_without_posts}
 use Rattle.kern_core.specs.Connections.{first_status, status_to, new_subscription}
 use Rattle.kern_core.specs.Slices.{letters_of as slice_letters_of, work_after, loading, by_start, by_run}

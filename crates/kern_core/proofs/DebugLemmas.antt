@@ -20,7 +20,7 @@ use Rattle.kern_request.specs.declared.request.Request.{Request}
 use Rattle.dap_board.specs.Commands.{command_result}
 use Rattle.kern_exec.specs.Letters.{between_busy_and_idle}
 use Rattle.kern_post.specs.declared.content.Cause.TheVariants as cause
-use Rattle.kern_core.specs.declared.call.Reply.TheVariants.{Arrived}
+use Rattle.kern_calls.specs.declared.call.Reply.TheVariants.{Arrived}
 use Rattle.kern_core.specs.States.{KernelState, Turn, after, posting}
 use Rattle.kern_core.specs.Requests.{is_reset, cut_letters, cut_work, with_board, debug_reply}
 use Rattle.kern_core.specs.Requests.{after_letter, performed_letters, refusing, answering, performing}

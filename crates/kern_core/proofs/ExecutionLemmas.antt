@@ -34,8 +34,8 @@ use Rattle.kern_exec.specs.Boards.{is_run, cell_given, loading_of}
 use Rattle.kern_exec.specs.Ends.{ending_of, cut_letters as letters_of_cut, end_letters, end_of_loading}
 use Rattle.kern_exec.specs.Ends.{input_letters, outcome_letters, loading_letters}
 use Rattle.kern_exec.specs.Letters.{publication, between_busy_and_idle}
-use Rattle.kern_core.specs.declared.call.Call.{Call}
-use Rattle.kern_core.specs.declared.call.Call.TheVariants as call
+use Rattle.kern_calls.specs.declared.call.Call.{Call}
+use Rattle.kern_calls.specs.declared.call.Call.TheVariants as call
 use Rattle.kern_core.specs.States.{KernelState, Turn}
 use Rattle.kern_core.specs.Connections.{first_status, status_to}
 use Rattle.kern_core.specs.Requests.{cut_of}

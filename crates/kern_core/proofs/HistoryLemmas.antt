@@ -9,8 +9,8 @@ use Rattle.kern_post.specs.declared.post.Letter.{Letter}
 use Rattle.kern_post.specs.declared.post.Post.{Post}
 use Rattle.kern_post.specs.Posts.{as_posts}
 use Rattle.kern_exec.specs.declared.execution.Execution.{Execution}
-use Rattle.kern_core.specs.declared.call.Call.{Call}
-use Rattle.kern_core.specs.declared.call.Call.TheVariants as call
+use Rattle.kern_calls.specs.declared.call.Call.{Call}
+use Rattle.kern_calls.specs.declared.call.Call.TheVariants as call
 use Rattle.kern_core.specs.States.{KernelState, Turn, kernel_before_calls}
 use Rattle.kern_core.specs.Slices.{loading, by_start, by_run}
 use Rattle.kern_core.specs.Turns.{turn, next}

@@ -16,8 +16,8 @@ use Rattle.kern_exec.specs.declared.loading.Loading.TheVariants.{Starts, Ends}
 use Rattle.kern_exec.specs.Executions.{Work, clear_current, load_first}
 use Rattle.kern_exec.specs.Boards.{is_run, cell_given, loading_of}
 use Rattle.dap_answers.specs.Murmur.{cell_path}
-use Rattle.kern_core.specs.declared.call.Call.{Call}
-use Rattle.kern_core.specs.declared.call.Call.TheVariants as call
+use Rattle.kern_calls.specs.declared.call.Call.{Call}
+use Rattle.kern_calls.specs.declared.call.Call.TheVariants as call
 use Rattle.kern_core.specs.States.{KernelState, Turn}
 use Rattle.kern_core.specs.Slices.{work_after, by_start, by_run, loading, slicing}
 use Rattle.kern_core.specs.Turns.{turn, next}

@@ -10,7 +10,7 @@ use Rattle.kern_exec.specs.declared.loading.Loading.{Loading}
 use Rattle.kern_exec.specs.Executions.{Work, count_with, current_of, load_first}
 use Rattle.kern_exec.specs.Ends.{loading_letters}
 use Rattle.kern_exec.specs.Boards.{cell_given, loading_of, board_after}
-use Rattle.kern_core.specs.declared.call.Reply.TheVariants.{More}
+use Rattle.kern_calls.specs.declared.call.Reply.TheVariants.{More}
 use Rattle.kern_core.specs.States.{KernelState, after}
 use Rattle.kern_core.specs.Slices.{loading}
 use Rattle.kern_core.specs.Represents.{KernelFields, RepresentsKernel, Grows}

@@ -44,13 +44,13 @@ use Rattle.kern_exec.specs.Ends.{ending_of, cut_letters as letters_of_cut, end_l
 use Rattle.kern_exec.specs.Ends.{error_letters, outcome_letters, stream_letters, to_stdin}
 use Rattle.kern_exec.specs.Ends.{input_letters, input_requests, line_envelope}
 use Rattle.kern_exec.specs.Letters.{between_busy_and_idle}
-use Rattle.kern_core.specs.declared.call.Call.{Call}
-use Rattle.kern_core.specs.declared.call.Call.TheVariants as call
-use Rattle.kern_core.specs.declared.call.Reply.TheVariants.{Joined}
-use Rattle.kern_core.specs.declared.fault.KernelFault.{KernelFault}
-use Rattle.kern_core.specs.declared.fault.KernelFault.TheVariants as fault
-use Rattle.kern_core.specs.declared.fault.KernelFault.TheVariants.{Full}
-use Rattle.kern_core.specs.declared.call.Subscription.{Subscription}
+use Rattle.kern_calls.specs.declared.call.Call.{Call}
+use Rattle.kern_calls.specs.declared.call.Call.TheVariants as call
+use Rattle.kern_calls.specs.declared.call.Reply.TheVariants.{Joined}
+use Rattle.kern_calls.specs.declared.fault.KernelFault.{KernelFault}
+use Rattle.kern_calls.specs.declared.fault.KernelFault.TheVariants as fault
+use Rattle.kern_calls.specs.declared.fault.KernelFault.TheVariants.{Full}
+use Rattle.kern_calls.specs.declared.call.Subscription.{Subscription}
 use Rattle.kern_core.specs.States.{KernelState, Turn, kernel_before_calls, after, refuse_turn}
 use Rattle.kern_core.specs.States.{turn_without_posts}
 use Rattle.kern_core.specs.Connections.{status_to, by_peer, subscribing}

@@ -30,8 +30,8 @@ use Rattle.kern_exec.specs.Executions.{current_of}
 use Rattle.kern_exec.specs.Boards.{cause_of, cell_given, loading_of, loading_by}
 use Rattle.kern_exec.specs.Ends.{ending_of, cut_letters as letters_of_cut, end_letters}
 use Rattle.kern_exec.specs.Ends.{end_of_loading, outcome_letters}
-use Rattle.kern_core.specs.declared.call.Call.{Call}
-use Rattle.kern_core.specs.declared.call.Call.TheVariants as call
+use Rattle.kern_calls.specs.declared.call.Call.{Call}
+use Rattle.kern_calls.specs.declared.call.Call.TheVariants as call
 use Rattle.kern_core.specs.States.{KernelState, Turn}
 use Rattle.kern_core.specs.Connections.{status_to}
 use Rattle.kern_core.specs.Requests.{cut_of}

@@ -7,9 +7,9 @@ use Rattle.lab_core.specs.declared.run_state.RunState.{RunState}
 use Rattle.lab_core.specs.declared.run_state.RunState.TheVariants.{NoRun, Running, Stopped}
 use Rattle.kern_exec.specs.declared.execution.Execution.{Execution}
 use Rattle.kern_post.specs.declared.post.Post.{Post}
-use Rattle.kern_core.specs.declared.call.Call.{Call}
-use Rattle.kern_core.specs.declared.call.Call.TheVariants as call
-use Rattle.kern_core.specs.declared.call.Reply.TheVariants.{Ended}
+use Rattle.kern_calls.specs.declared.call.Call.{Call}
+use Rattle.kern_calls.specs.declared.call.Call.TheVariants as call
+use Rattle.kern_calls.specs.declared.call.Reply.TheVariants.{Ended}
 use Rattle.kern_core.specs.States.{KernelState, Turn, turn_without_posts, after}
 use Rattle.kern_core.specs.Slices.{loading, by_start, by_run}
 use Rattle.kern_core.specs.Turns.{turn, next}

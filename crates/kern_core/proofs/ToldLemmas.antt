@@ -53,9 +53,9 @@ use Rattle.kern_exec.specs.Boards.{is_run, board_after, cell_given, loading_of}
 use Rattle.kern_exec.specs.Letters.{between_busy_and_idle}
 use Rattle.kern_exec.specs.Ends.{ending_of, cut_letters as letters_of_cut, end_letters, end_of_loading}
 use Rattle.kern_exec.specs.Ends.{outcome_letters}
-use Rattle.kern_core.specs.declared.call.Call.{Call}
-use Rattle.kern_core.specs.declared.call.Call.TheVariants as call
-use Rattle.kern_core.specs.declared.call.Reply.TheVariants.{Ended}
+use Rattle.kern_calls.specs.declared.call.Call.{Call}
+use Rattle.kern_calls.specs.declared.call.Call.TheVariants as call
+use Rattle.kern_calls.specs.declared.call.Reply.TheVariants.{Ended}
 use Rattle.kern_core.specs.States.{KernelState, Turn, turn_without_posts}
 use Rattle.kern_core.specs.Connections.{status_to, first_status}
 use Rattle.kern_core.specs.Requests.{plain_reply, by_reply, answering, performing, refusing, is_bounded}

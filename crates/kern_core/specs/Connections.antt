@@ -16,8 +16,8 @@ use Rattle.kern_peers.specs.Connections.{has_no_place, joined_by, peer_at, witho
 use Rattle.kern_peers.specs.Connections.{subscribed_by, without_subscription}
 use Rattle.kern_exec.specs.declared.execution.Execution.{Execution}
 use Rattle.kern_exec.specs.Boards.{is_run}
-use Rattle.kern_core.specs.declared.call.Reply.TheVariants as reply
-use Rattle.kern_core.specs.declared.fault.KernelFault.TheVariants.{Full, Lagged, NoConnection}
+use Rattle.kern_calls.specs.declared.call.Reply.TheVariants as reply
+use Rattle.kern_calls.specs.declared.fault.KernelFault.TheVariants.{Full, Lagged, NoConnection}
 use Rattle.kern_core.specs.States.{KernelState, Turn, refuse_turn, turn_without_posts, posting}
 
 -- ---- joining and leaving

@@ -39,8 +39,8 @@ use Rattle.kern_post.specs.declared.content.Content.TheVariants as content
 use Rattle.kern_post.specs.declared.post.Letter.{Letter}
 use Rattle.kern_exec.specs.declared.execution.Execution.{Execution}
 use Rattle.kern_exec.specs.Executions.{Work}
-use Rattle.kern_core.specs.declared.call.Call.{Call}
-use Rattle.kern_core.specs.declared.call.Call.TheVariants as call
+use Rattle.kern_calls.specs.declared.call.Call.{Call}
+use Rattle.kern_calls.specs.declared.call.Call.TheVariants as call
 use Rattle.kern_core.specs.States.{KernelState, kernel_before_calls}
 use Rattle.kern_core.specs.Requests.{is_bounded}
 use Rattle.kern_core.specs.Turns.{next, state_after}

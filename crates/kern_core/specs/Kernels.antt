@@ -1,10 +1,10 @@
 -- What contracts see of a kernel, what a call does to it, and when its fields represent its entries.
 use Rattle.std.specs.Prelude.{◌≡◌, ℕ, ◌*◌, ◌<◌, ◌≤◌, Bool, true, false, List, [], ◌∷◌, ◌++◌, length}
 use Rattle.std.specs.Prelude.{Result, Err}
-use Rattle.kern_core.specs.declared.call.Call.{Call}
-use Rattle.kern_core.specs.declared.call.Reply.{Reply}
-use Rattle.kern_core.specs.declared.fault.KernelFault.{KernelFault}
-use Rattle.kern_core.specs.declared.fault.KernelFault.TheVariants.{OutOfMemory, JournalFull}
+use Rattle.kern_calls.specs.declared.call.Call.{Call}
+use Rattle.kern_calls.specs.declared.call.Reply.{Reply}
+use Rattle.kern_calls.specs.declared.fault.KernelFault.{KernelFault}
+use Rattle.kern_calls.specs.declared.fault.KernelFault.TheVariants.{OutOfMemory, JournalFull}
 use Rattle.kern_core.specs.Turns.{answer_after, state_after}
 use Rattle.kern_core.specs.Represents.{KernelFields, RepresentsKernel}
 

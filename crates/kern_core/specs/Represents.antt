@@ -5,9 +5,9 @@ use Rattle.lab_core.specs.declared.run_state.RunState.{RunState}
 use Rattle.kern_post.specs.Posts.{StoreState, Keeps}
 use Rattle.kern_peers.specs.Connections.{Connections}
 use Rattle.kern_exec.specs.Executions.{Work}
-use Rattle.kern_core.specs.declared.call.Reply.{Reply}
-use Rattle.kern_core.specs.declared.fault.KernelFault.{KernelFault}
-use Rattle.kern_core.specs.declared.fault.KernelFault.TheVariants.{OutOfMemory}
+use Rattle.kern_calls.specs.declared.call.Reply.{Reply}
+use Rattle.kern_calls.specs.declared.fault.KernelFault.{KernelFault}
+use Rattle.kern_calls.specs.declared.fault.KernelFault.TheVariants.{OutOfMemory}
 use Rattle.kern_core.specs.States.{KernelState, Turn, after}
 
 -- what contracts see of the fields

@@ -44,8 +44,8 @@ use Rattle.kern_exec.specs.Letters.{publication, reply_letter, between_busy_and_
 use Rattle.kern_exec.specs.Executions.{Work, execution_of, enqueue, clear_current}
 use Rattle.kern_exec.specs.Ends.{error_letters, cut_letters as letters_of_cut}
 use Rattle.kern_exec.specs.Boards.{is_run, end_run_if_any}
-use Rattle.kern_core.specs.declared.call.Reply.TheVariants.{Arrived}
-use Rattle.kern_core.specs.declared.fault.KernelFault.TheVariants.{NoConnection}
+use Rattle.kern_calls.specs.declared.call.Reply.TheVariants.{Arrived}
+use Rattle.kern_calls.specs.declared.fault.KernelFault.TheVariants.{NoConnection}
 use Rattle.kern_core.specs.States.{KernelState, Turn, refuse_turn, turn_without_posts, posting}
 use Rattle.kern_core.specs.Connections.{with_peer}
 

@@ -15,8 +15,8 @@ use Rattle.kern_exec.specs.Executions.{Work, current_of, load_first, clear_pendi
 use Rattle.kern_exec.specs.Ends.{loading_letters, slice_letters}
 use Rattle.lab_core.specs.SliceEnds.{slice_end, after_slice}
 use Rattle.kern_exec.specs.Boards.{cell_given, loading_of, board_after}
-use Rattle.kern_core.specs.declared.call.Reply.{Reply}
-use Rattle.kern_core.specs.declared.call.Reply.TheVariants.{More, Idle, Ended}
+use Rattle.kern_calls.specs.declared.call.Reply.{Reply}
+use Rattle.kern_calls.specs.declared.call.Reply.TheVariants.{More, Idle, Ended}
 use Rattle.kern_core.specs.States.{KernelState, Turn, turn_without_posts, posting}
 
 -- ---- a slice of the run

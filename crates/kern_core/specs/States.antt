@@ -6,8 +6,8 @@ use Rattle.kern_post.specs.declared.post.Post.{Post}
 use Rattle.kern_post.specs.Posts.{with_posts}
 use Rattle.kern_peers.specs.Connections.{Connections, no_connections}
 use Rattle.kern_exec.specs.Executions.{Work, nothing}
-use Rattle.kern_core.specs.declared.call.Reply.{Reply}
-use Rattle.kern_core.specs.declared.fault.KernelFault.{KernelFault}
+use Rattle.kern_calls.specs.declared.call.Reply.{Reply}
+use Rattle.kern_calls.specs.declared.fault.KernelFault.{KernelFault}
 
 pub record KernelState : Type 0 where
   pub board : Board

@@ -1,10 +1,10 @@
 -- The turn of each call, and the kernel after a list of calls.
 use Rattle.std.specs.Prelude.{List, Result}
 use Rattle.std.specs.List.{fold}
-use Rattle.kern_core.specs.declared.call.Call.{Call}
-use Rattle.kern_core.specs.declared.call.Call.TheVariants as call
-use Rattle.kern_core.specs.declared.call.Reply.{Reply}
-use Rattle.kern_core.specs.declared.fault.KernelFault.{KernelFault}
+use Rattle.kern_calls.specs.declared.call.Call.{Call}
+use Rattle.kern_calls.specs.declared.call.Call.TheVariants as call
+use Rattle.kern_calls.specs.declared.call.Reply.{Reply}
+use Rattle.kern_calls.specs.declared.fault.KernelFault.{KernelFault}
 use Rattle.kern_core.specs.States.{KernelState, Turn, kernel_before_calls, after}
 use Rattle.kern_core.specs.Connections.{join_turn, leave_turn, subscribing, fetch_turn}
 use Rattle.kern_core.specs.Requests.{arriving}

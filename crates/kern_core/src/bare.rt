@@ -5,9 +5,9 @@ ghost use Rattle.kern_core.specs.States.{kernel_before_calls, KernelState as Ker
 ghost use Rattle.kern_core.specs.Turns.{turn};
 ghost use Rattle.kern_core.specs.Represents.{RepresentsKernel, TakesTurn};
 
-use crate::call::{Call, Reply};
-use crate::fault::KernelFault;
 use crate::state::KernelState;
+use kern_calls::call::{Call, Reply};
+use kern_calls::fault::KernelFault;
 use kern_post::post::Post;
 use std::alloc::{AllocError, Global};
 use std::marker::Model;

@@ -2,9 +2,9 @@
 ghost use Rattle.std.specs.Prelude.{◌≡◌, ◌≤◌, [], length, nat_le, IfOk, option_map, slice_get};
 ghost use Rattle.kern_core.specs.Kernels.{is_entry, MakesCall};
 
-use crate::call::{Call, Reply};
-use crate::fault::KernelFault;
 use crate::state::KernelState;
+use kern_calls::call::{Call, Reply};
+use kern_calls::fault::KernelFault;
 use std::alloc::{AllocError, Global};
 use std::marker::Model;
 

@@ -5,7 +5,7 @@ ghost use Rattle.base_text.specs.Bytes.{Bytes, Text};
 ghost use Rattle.lab_core.specs.Events.{Fits};
 ghost use Rattle.kern_peers.specs.declared.peer.Peer.{Peer};
 ghost use Rattle.kern_peers.specs.Connections.{subscribers};
-ghost use Rattle.kern_core.specs.declared.call.Call.{Call};
+ghost use Rattle.kern_calls.specs.declared.call.Call.{Call};
 ghost use Rattle.kern_core.specs.States.{kernel_before_calls};
 ghost use Rattle.kern_core.specs.Turns.{turn, state_after};
 ghost use Rattle.kern_core.specs.Events.{events_of, letters_of, along, BoardIsAfterEvents};

@@ -7,9 +7,9 @@
 #![tactic(auto)]
 
 pub mod bare;
-pub mod call;
-pub mod fault;
 pub mod kernel;
 pub mod laws;
 mod replies;
 mod state;
+
+pub use kern_calls::{call, fault};

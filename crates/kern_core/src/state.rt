@@ -10,8 +10,8 @@ mod debug;
 mod requests;
 mod slices;
 
-use crate::call::{Arrival, Call, Reply, Subscription};
-use crate::fault::KernelFault;
+use kern_calls::call::{Arrival, Call, Reply, Subscription};
+use kern_calls::fault::KernelFault;
 use kern_exec::executions::Executions;
 use kern_peers::peers::Peers;
 use kern_post::post::Post;

@@ -3,7 +3,7 @@ use Rattle.std.proofs.Common.{◌≡◌, ℕ, suc, zero, List, [], ◌∷◌, �
 use Rattle.std.proofs.Common.{refl, sym, ap, arith}
 use Rattle.std.specs.List.{zip}
 use Rattle.std.specs.Option.{option_zip}
-use Rattle.kern_core.specs.declared.call.Call.{Call}
+use Rattle.kern_calls.specs.declared.call.Call.{Call}
 use Rattle.kern_desk.specs.Seats.{calls_of}
 
 shorter : {A B : Type 0} (x : A) (xs : List A) (y : B) (ys : List B)

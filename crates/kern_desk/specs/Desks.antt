@@ -1,7 +1,7 @@
 -- Desks that were opened, and desks that are closed.
 use Rattle.std.specs.Prelude.{◌≡◌, ◌≢◌, ℕ, List, length, All, Option, IfSome, IfNone}
 use Rattle.lab_turn.specs.History.{TurnstileState, PassState, FreshFrom, IsHistoryOf}
-use Rattle.kern_core.specs.declared.call.Call.{Call}
+use Rattle.kern_calls.specs.declared.call.Call.{Call}
 use Rattle.kern_desk.specs.Seats.{SeatedState}
 
 -- a desk with this limit and so many seats, and one pass for each seat, with which no call was made

@@ -1,11 +1,11 @@
 -- The answers to a Join.
 use Rattle.std.specs.Prelude.{◌≡◌, true, Result, Ok, Err}
 use Rattle.lab_turn.specs.History.{PassState, Turned}
-use Rattle.kern_core.specs.declared.call.Call.{Call}
-use Rattle.kern_core.specs.declared.call.Reply.{Reply}
-use Rattle.kern_core.specs.declared.call.Reply.TheVariants as reply
-use Rattle.kern_core.specs.declared.fault.KernelFault.{KernelFault}
-use Rattle.kern_core.specs.declared.fault.KernelFault.TheVariants.{JournalFull}
+use Rattle.kern_calls.specs.declared.call.Call.{Call}
+use Rattle.kern_calls.specs.declared.call.Reply.{Reply}
+use Rattle.kern_calls.specs.declared.call.Reply.TheVariants as reply
+use Rattle.kern_calls.specs.declared.fault.KernelFault.{KernelFault}
+use Rattle.kern_calls.specs.declared.fault.KernelFault.TheVariants.{JournalFull}
 use Rattle.kern_core.specs.Kernels.{is_entry, is_full}
 use Rattle.kern_desk.specs.declared.desks.Joined.{Joined}
 use Rattle.kern_desk.specs.Seats.{seated_answer}

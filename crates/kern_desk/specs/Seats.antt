@@ -1,8 +1,8 @@
 -- Entries and their seats.
 use Rattle.std.specs.Prelude.{ℕ, List, map, Result}
-use Rattle.kern_core.specs.declared.call.Call.{Call}
-use Rattle.kern_core.specs.declared.call.Reply.{Reply}
-use Rattle.kern_core.specs.declared.fault.KernelFault.{KernelFault}
+use Rattle.kern_calls.specs.declared.call.Call.{Call}
+use Rattle.kern_calls.specs.declared.call.Reply.{Reply}
+use Rattle.kern_calls.specs.declared.fault.KernelFault.{KernelFault}
 use Rattle.kern_core.specs.Turns.{answer_after}
 
 -- each entry is the seat that made the call, and the call

@@ -1,7 +1,7 @@
 //! Opening and closing desks, and joining.
 ghost use Rattle.std.specs.Prelude.{◌≡◌, ◌<◌, ◌≤◌, All, Ok, Err, IfOk, IfErr};
-ghost use Rattle.kern_core.specs.declared.call.Call.TheVariants.{Join};
-ghost use Rattle.kern_core.specs.declared.call.Reply.TheVariants as reply;
+ghost use Rattle.kern_calls.specs.declared.call.Call.TheVariants.{Join};
+ghost use Rattle.kern_calls.specs.declared.call.Reply.TheVariants as reply;
 ghost use Rattle.kern_desk.specs.Desks.{IsNewDesk, ClosesDesk};
 ghost use Rattle.kern_desk.specs.Joins.{IsJoinAnswer, IsJoined, IsUnjoined};
 

@@ -5,8 +5,8 @@ use Rattle.std.proofs.lemmas.List.Elements.{Contains-append_left, Contains-push}
 use mathlib.Core.List.{IsPrefix}
 use Rattle.lab_turn.specs.History.{PassState, TurnstileState, IsHistoryOf, fresh_pass, calls_of}
 use Rattle.lab_turn.proofs.HistoryLemmas.{prefix_trans}
-use Rattle.kern_core.specs.declared.call.Call.{Call}
-use Rattle.kern_core.specs.declared.call.Call.TheVariants.{Slice}
+use Rattle.kern_calls.specs.declared.call.Call.{Call}
+use Rattle.kern_calls.specs.declared.call.Call.TheVariants.{Slice}
 use Rattle.kern_net.specs.Gates.{WorkerPolls}
 use Rattle.kern_net.specs.Work.{Sliced, SawShutdown, WorkEnds, MakesSlices, untaken}
 use Rattle.kern_net.specs.declared.end.PumpEnd.TheVariants as end

@@ -3,11 +3,11 @@ use Rattle.std.proofs.Common.{◌≡◌, ℕ, true, [], Option, Result, Ok, Err,
 use Rattle.std.proofs.Common.{append-nil, refl, List, ◌++◌, subst}
 use Rattle.lab_turn.specs.History.{PassState, Sees}
 use Rattle.lab_turn.proofs.HistoryLemmas.{prefix_self, prefix_trans}
-use Rattle.kern_core.specs.declared.call.Call.{Call}
-use Rattle.kern_core.specs.declared.call.Call.TheVariants.{Leave}
-use Rattle.kern_core.specs.declared.call.Reply.{Reply}
-use Rattle.kern_core.specs.declared.fault.KernelFault.{KernelFault}
-use Rattle.kern_core.specs.declared.fault.KernelFault.TheVariants as fault
+use Rattle.kern_calls.specs.declared.call.Call.{Call}
+use Rattle.kern_calls.specs.declared.call.Call.TheVariants.{Leave}
+use Rattle.kern_calls.specs.declared.call.Reply.{Reply}
+use Rattle.kern_calls.specs.declared.fault.KernelFault.{KernelFault}
+use Rattle.kern_calls.specs.declared.fault.KernelFault.TheVariants as fault
 use Rattle.kern_core.specs.Kernels.{is_entry}
 use Rattle.kern_net.specs.Calls.{TurnedBy}
 use Rattle.kern_net.proofs.CallLemmas.{turned_prefix, entry_calls, no_entry_calls}

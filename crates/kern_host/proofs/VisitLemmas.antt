@@ -13,12 +13,12 @@ use Rattle.zmtp_wire.specs.Sending as hello
 use Rattle.jup_wire.specs.declared.channel.Channel.{Channel}
 use Rattle.lab_turn.specs.History.{PassState, calls_of}
 use Rattle.lab_turn.proofs.HistoryLemmas.{prefix_self, prefix_trans}
-use Rattle.kern_core.specs.declared.call.Call.{Call}
-use Rattle.kern_core.specs.declared.call.Call.TheVariants.{Join}
-use Rattle.kern_core.specs.declared.call.Reply.{Reply}
-use Rattle.kern_core.specs.declared.call.Reply.TheVariants as reply
-use Rattle.kern_core.specs.declared.fault.KernelFault.{KernelFault}
-use Rattle.kern_core.specs.declared.fault.KernelFault.TheVariants as fault
+use Rattle.kern_calls.specs.declared.call.Call.{Call}
+use Rattle.kern_calls.specs.declared.call.Call.TheVariants.{Join}
+use Rattle.kern_calls.specs.declared.call.Reply.{Reply}
+use Rattle.kern_calls.specs.declared.call.Reply.TheVariants as reply
+use Rattle.kern_calls.specs.declared.fault.KernelFault.{KernelFault}
+use Rattle.kern_calls.specs.declared.fault.KernelFault.TheVariants as fault
 use Rattle.kern_core.specs.Kernels.{is_entry}
 use Rattle.kern_core.specs.Laws.{posts_below}
 use Rattle.kern_desk.specs.declared.desks.Joined.{Joined}

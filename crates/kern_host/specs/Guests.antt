@@ -3,7 +3,7 @@ use Rattle.std.specs.Prelude.{◌≡◌, Option, Some, None, List, [], ◌∷◌
 use Rattle.base_streams.specs.States.{InletState, OutletState, IsReadable, IsWritable}
 use Rattle.jup_wire.specs.declared.channel.Channel.{Channel}
 use Rattle.lab_turn.specs.History.{PassState, TurnstileState}
-use Rattle.kern_core.specs.declared.call.Call.{Call}
+use Rattle.kern_calls.specs.declared.call.Call.{Call}
 use Rattle.kern_net.specs.Gates.{ReaderPolls, WriterPolls, HasWoken}
 use Rattle.kern_host.specs.declared.end.VisitEnd.{VisitEnd}
 use Rattle.kern_host.specs.declared.guest.Passes.{Passes}

@@ -5,7 +5,7 @@ use denote.Ref.{MutBor}
 use denote.Param.Members.{Shared}
 use Rattle.std.specs.Fork.{ChangesEach}
 use Rattle.lab_turn.specs.History.{PassState, TurnstileState, IsLegal, fresh_pass}
-use Rattle.kern_core.specs.declared.call.Call.{Call}
+use Rattle.kern_calls.specs.declared.call.Call.{Call}
 use Rattle.kern_core.specs.Kernels.{JournalState}
 use Rattle.kern_net.specs.Gates.{WorkerPolls, no_polls}
 use Rattle.kern_host.specs.declared.end.VisitEnd.{VisitEnd}

@@ -14,11 +14,11 @@ use Rattle.zmtp_wire.specs.Sending as hello
 use Rattle.jup_wire.specs.declared.channel.Channel.{Channel}
 use Rattle.jup_wire.specs.declared.channel.Channel.TheVariants.{Iopub}
 use Rattle.lab_turn.specs.History.{PassState, calls_of}
-use Rattle.kern_core.specs.declared.call.Call.{Call}
-use Rattle.kern_core.specs.declared.call.Call.TheVariants.{Join}
-use Rattle.kern_core.specs.declared.call.Reply.TheVariants.{Joined}
-use Rattle.kern_core.specs.declared.fault.KernelFault.{KernelFault}
-use Rattle.kern_core.specs.declared.fault.KernelFault.TheVariants as fault
+use Rattle.kern_calls.specs.declared.call.Call.{Call}
+use Rattle.kern_calls.specs.declared.call.Call.TheVariants.{Join}
+use Rattle.kern_calls.specs.declared.call.Reply.TheVariants.{Joined}
+use Rattle.kern_calls.specs.declared.fault.KernelFault.{KernelFault}
+use Rattle.kern_calls.specs.declared.fault.KernelFault.TheVariants as fault
 use Rattle.kern_core.specs.Laws.{posts_below}
 use Rattle.kern_desk.specs.Joins.{IsUnjoined}
 use Rattle.kern_net.specs.declared.end.PumpEnd.{PumpEnd}

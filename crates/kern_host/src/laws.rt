@@ -1,7 +1,7 @@
 //! What the pumps of a connection did, seen in the one history of all calls.
 ghost use Rattle.std.specs.Prelude.{◌≡◌, ℕ, List, Contains};
 ghost use Rattle.lab_turn.specs.History.{PassState, TurnstileState, IsHistoryOf};
-ghost use Rattle.kern_core.specs.declared.call.Call.{Call};
+ghost use Rattle.kern_calls.specs.declared.call.Call.{Call};
 ghost use Rattle.zmtp_wire.specs.declared.handshake.Peer.{Peer};
 ghost use Rattle.kern_net.specs.declared.end.PumpEnd.{PumpEnd};
 ghost use Rattle.kern_net.specs.ReadEnds.{Reader};

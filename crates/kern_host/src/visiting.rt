@@ -1,8 +1,8 @@
 //! One connection, from its handshake to its Leave.
 ghost use Rattle.std.specs.Prelude.{◌≡◌, ℕ, List, Ok, Some, IfOk, IfErr};
-ghost use Rattle.kern_core.specs.declared.call.Call.{Call};
-ghost use Rattle.kern_core.specs.declared.call.Call.TheVariants.{Join};
-ghost use Rattle.kern_core.specs.declared.call.Reply.TheVariants as reply;
+ghost use Rattle.kern_calls.specs.declared.call.Call.{Call};
+ghost use Rattle.kern_calls.specs.declared.call.Call.TheVariants.{Join};
+ghost use Rattle.kern_calls.specs.declared.call.Reply.TheVariants as reply;
 ghost use Rattle.kern_net.specs.Calls.{TurnedBy};
 ghost use Rattle.kern_net.specs.Routes.{source_of, target_of};
 ghost use Rattle.kern_host.specs.Guests.{AreOf, IsComing, IsSeated, line_of};

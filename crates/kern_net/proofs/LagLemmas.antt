@@ -18,11 +18,11 @@ use Rattle.kern_peers.specs.declared.peer.Peer.{Peer}
 use Rattle.kern_peers.specs.Connections.{is_on, is_full, peer_at}
 use Rattle.kern_post.specs.declared.content.Content.{Content}
 use Rattle.kern_exec.specs.Executions.{execution_of, enqueue}
-use Rattle.kern_core.specs.declared.call.Call.{Call}
-use Rattle.kern_core.specs.declared.call.Call.TheVariants as call
-use Rattle.kern_core.specs.declared.call.Reply.{Reply}
-use Rattle.kern_core.specs.declared.call.Reply.TheVariants.{Arrived, Subscribed}
-use Rattle.kern_core.specs.declared.fault.KernelFault.TheVariants.{Full, Lagged, NoConnection}
+use Rattle.kern_calls.specs.declared.call.Call.{Call}
+use Rattle.kern_calls.specs.declared.call.Call.TheVariants as call
+use Rattle.kern_calls.specs.declared.call.Reply.{Reply}
+use Rattle.kern_calls.specs.declared.call.Reply.TheVariants.{Arrived, Subscribed}
+use Rattle.kern_calls.specs.declared.fault.KernelFault.TheVariants.{Full, Lagged, NoConnection}
 use Rattle.kern_core.specs.States.{KernelState, Turn, refuse_turn, turn_without_posts}
 use Rattle.kern_core.specs.Connections.{by_peer, unsubscribe_turn, new_subscription, subscribing}
 use Rattle.kern_core.specs.Requests.{plain_reply, replying, queue_full, executing, interrupting, shutting}

@@ -10,7 +10,7 @@ use Rattle.zmtp_wire.proofs.EchoLemmas.{completes_none}
 use Rattle.zmtp_wire.proofs.ReceivingLemmas.{told_none, most_at, most_below, most_is}
 use Rattle.zmtp_wire.specs.Receiving.{most_reads}
 use Rattle.lab_turn.specs.History.{PassState}
-use Rattle.kern_core.specs.declared.call.Call.{Call}
+use Rattle.kern_calls.specs.declared.call.Call.{Call}
 use Rattle.kern_net.specs.declared.end.PumpEnd.{PumpEnd}
 use Rattle.kern_net.specs.declared.end.PumpEnd.TheVariants as pump
 use Rattle.kern_net.specs.Submitting.{Submits, NoMore, Submitted, Dropped}

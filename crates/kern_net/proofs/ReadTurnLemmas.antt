@@ -3,11 +3,11 @@ use Rattle.std.proofs.Common.{◌≡◌, ◌∙◌, inl, inr, subst, ℕ, true, 
 use Rattle.std.proofs.Common.{Ok, Err, sym, ap, append-nil}
 use mathlib.Core.List.{IsPrefix}
 use Rattle.lab_turn.specs.History.{PassState, Turned}
-use Rattle.kern_core.specs.declared.call.Call.{Call}
-use Rattle.kern_core.specs.declared.call.Reply.{Reply}
-use Rattle.kern_core.specs.declared.fault.KernelFault.{KernelFault}
-use Rattle.kern_core.specs.declared.fault.KernelFault.TheVariants.{OutOfMemory, Full, Lagged, JournalFull}
-use Rattle.kern_core.specs.declared.fault.KernelFault.TheVariants.{NoConnection}
+use Rattle.kern_calls.specs.declared.call.Call.{Call}
+use Rattle.kern_calls.specs.declared.call.Reply.{Reply}
+use Rattle.kern_calls.specs.declared.fault.KernelFault.{KernelFault}
+use Rattle.kern_calls.specs.declared.fault.KernelFault.TheVariants.{OutOfMemory, Full, Lagged, JournalFull}
+use Rattle.kern_calls.specs.declared.fault.KernelFault.TheVariants.{NoConnection}
 use Rattle.kern_core.specs.Kernels.{is_entry, is_full}
 use Rattle.kern_desk.specs.Seats.{seated_answer}
 use Rattle.kern_net.specs.declared.end.PumpEnd.TheVariants as pump

@@ -4,12 +4,12 @@ use Rattle.std.proofs.Common.{ap, sym, arith}
 use Rattle.std.specs.Prelude.{cond, count_by, not}
 use Rattle.std.proofs.lemmas.List.Sums.{sum_by_push}
 use Rattle.lab_turn.specs.History.{PassState}
-use Rattle.kern_core.specs.declared.call.Call.{Call}
-use Rattle.kern_core.specs.declared.call.Call.TheVariants.{Arrive, Subscribe}
-use Rattle.kern_core.specs.declared.call.Arrival.{Arrival}
-use Rattle.kern_core.specs.declared.call.Subscription.{Subscription}
-use Rattle.kern_core.specs.declared.call.Reply.{Reply}
-use Rattle.kern_core.specs.declared.fault.KernelFault.{KernelFault}
+use Rattle.kern_calls.specs.declared.call.Call.{Call}
+use Rattle.kern_calls.specs.declared.call.Call.TheVariants.{Arrive, Subscribe}
+use Rattle.kern_calls.specs.declared.call.Arrival.{Arrival}
+use Rattle.kern_calls.specs.declared.call.Subscription.{Subscription}
+use Rattle.kern_calls.specs.declared.call.Reply.{Reply}
+use Rattle.kern_calls.specs.declared.fault.KernelFault.{KernelFault}
 use Rattle.kern_core.specs.Kernels.{is_entry}
 use Rattle.kern_net.specs.Calls.{TurnedBy}
 use Rattle.kern_net.specs.Gates.{ReaderPolls, after_wake, WokeForEach, WokeOwnForEach, HasWoken}

@@ -14,9 +14,9 @@ use Rattle.jup_wire.specs.declared.message.WireFault.TheVariants.{OutOfMemory}
 use Rattle.jup_wire.specs.Wire.{IsMessage}
 use Rattle.serde_json.specs.Data.{Data}
 use Rattle.kern_request.specs.Requests.{request_of}
-use Rattle.kern_core.specs.declared.call.Call.{Call}
-use Rattle.kern_core.specs.declared.call.Call.TheVariants.{Arrive, Subscribe}
-use Rattle.kern_core.specs.declared.call.Reply.{Reply}
+use Rattle.kern_calls.specs.declared.call.Call.{Call}
+use Rattle.kern_calls.specs.declared.call.Call.TheVariants.{Arrive, Subscribe}
+use Rattle.kern_calls.specs.declared.call.Reply.{Reply}
 use Rattle.kern_net.specs.declared.end.PumpEnd.{PumpEnd}
 use Rattle.kern_net.specs.declared.end.PumpEnd.TheVariants as pump
 use Rattle.kern_net.specs.Routes.{Source}

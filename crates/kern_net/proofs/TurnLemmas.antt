@@ -25,10 +25,10 @@ use Rattle.kern_post.specs.Posts.{posts_between as posts_to, first_kept, next_fr
 use Rattle.kern_exec.specs.declared.execution.Execution.{Execution}
 use Rattle.kern_exec.specs.Executions.{execution_of, enqueue}
 use Rattle.lab_core.specs.SliceEnds.{slice_end}
-use Rattle.kern_core.specs.declared.call.Call.{Call}
-use Rattle.kern_core.specs.declared.call.Call.TheVariants as call
-use Rattle.kern_core.specs.declared.call.Reply.TheVariants as reply
-use Rattle.kern_core.specs.declared.fault.KernelFault.TheVariants as fault
+use Rattle.kern_calls.specs.declared.call.Call.{Call}
+use Rattle.kern_calls.specs.declared.call.Call.TheVariants as call
+use Rattle.kern_calls.specs.declared.call.Reply.TheVariants as reply
+use Rattle.kern_calls.specs.declared.fault.KernelFault.TheVariants as fault
 use Rattle.kern_core.specs.States.{KernelState, Turn, refuse_turn, turn_without_posts}
 use Rattle.kern_core.specs.Connections.{by_peer, join_turn, unsubscribe_turn, new_subscription, fetching}
 use Rattle.kern_core.specs.Requests.{plain_reply, by_reply, other, executing, queue_full, shutting, answering}

@@ -35,11 +35,11 @@ use Rattle.kern_post.specs.declared.content.Content.TheVariants as content
 use Rattle.kern_post.specs.declared.content.ExecutionState.TheVariants.{Busy, Idle}
 use Rattle.kern_post.specs.declared.post.Letter.{Letter}
 use Rattle.kern_exec.specs.Letters.{between_busy_and_idle, publication}
-use Rattle.kern_core.specs.declared.call.Call.{Call}
-use Rattle.kern_core.specs.declared.call.Call.TheVariants as call
-use Rattle.kern_core.specs.declared.call.Reply.TheVariants.{Arrived}
-use Rattle.kern_core.specs.declared.fault.KernelFault.{KernelFault}
-use Rattle.kern_core.specs.declared.fault.KernelFault.TheVariants.{Full, NoConnection}
+use Rattle.kern_calls.specs.declared.call.Call.{Call}
+use Rattle.kern_calls.specs.declared.call.Call.TheVariants as call
+use Rattle.kern_calls.specs.declared.call.Reply.TheVariants.{Arrived}
+use Rattle.kern_calls.specs.declared.fault.KernelFault.{KernelFault}
+use Rattle.kern_calls.specs.declared.fault.KernelFault.TheVariants.{Full, NoConnection}
 use Rattle.kern_core.specs.States.{KernelState, Turn, refuse_turn, posting}
 use Rattle.kern_core.specs.Connections.{by_peer, unsubscribe_turn, new_subscription, first_status, status_to}
 use Rattle.kern_core.specs.Connections.{subscribing}

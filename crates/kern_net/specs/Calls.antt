@@ -2,9 +2,9 @@
 use Rattle.std.specs.Prelude.{◌≡◌, ℕ, List, [], ◌∷◌, ◌++◌, length, Result}
 use mathlib.Core.List.{IsPrefix}
 use Rattle.lab_turn.specs.History.{PassState, Turned, calls_of}
-use Rattle.kern_core.specs.declared.call.Call.{Call}
-use Rattle.kern_core.specs.declared.call.Reply.{Reply}
-use Rattle.kern_core.specs.declared.fault.KernelFault.{KernelFault}
+use Rattle.kern_calls.specs.declared.call.Call.{Call}
+use Rattle.kern_calls.specs.declared.call.Reply.{Reply}
+use Rattle.kern_calls.specs.declared.fault.KernelFault.{KernelFault}
 use Rattle.kern_core.specs.Kernels.{is_entry, is_full}
 use Rattle.kern_desk.specs.Seats.{seated_answer}
 

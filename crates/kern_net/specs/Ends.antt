@@ -1,6 +1,6 @@
 -- How a pump ends when its peer or a call fails.
-use Rattle.kern_core.specs.declared.fault.KernelFault.{KernelFault}
-use Rattle.kern_core.specs.declared.fault.KernelFault.TheVariants as fault
+use Rattle.kern_calls.specs.declared.fault.KernelFault.{KernelFault}
+use Rattle.kern_calls.specs.declared.fault.KernelFault.TheVariants as fault
 use Rattle.zmtp_wire.specs.declared.peer_fault.PeerFault.{PeerFault}
 use Rattle.zmtp_wire.specs.declared.peer_fault.PeerFault.TheVariants as peer
 use Rattle.kern_net.specs.declared.end.PumpEnd.{PumpEnd}

@@ -3,9 +3,9 @@ use Rattle.std.specs.Prelude.{◌≡◌, ℕ, ◌+◌, ◌<◌, ◌≤◌, Bool,
 use Rattle.std.specs.Prelude.{Option, Some, None, Ok}
 use Rattle.lab_turn.specs.History.{PassState}
 use Rattle.kern_post.specs.declared.post.Post.{Post}
-use Rattle.kern_core.specs.declared.call.Call.{Call}
-use Rattle.kern_core.specs.declared.call.Call.TheVariants.{Fetch, Subscribe, Arrive, Slice}
-use Rattle.kern_core.specs.declared.call.Reply.TheVariants.{Fetched}
+use Rattle.kern_calls.specs.declared.call.Call.{Call}
+use Rattle.kern_calls.specs.declared.call.Call.TheVariants.{Fetch, Subscribe, Arrive, Slice}
+use Rattle.kern_calls.specs.declared.call.Reply.TheVariants.{Fetched}
 use Rattle.kern_net.specs.Calls.{LastCall}
 use Rattle.kern_net.specs.Streams.{posts_in}
 use Rattle.kern_net.specs.Wakes.{concerns_worker, spares_worker}

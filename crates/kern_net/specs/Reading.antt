@@ -8,8 +8,8 @@ use Rattle.lab_turn.specs.History.{PassState, TurnstileState}
 use Rattle.zmtp_wire.specs.Stream.{DecoderState, Completes}
 use Rattle.zmtp_wire.specs.declared.handshake.Peer.{Peer}
 use Rattle.zmtp_wire.specs.Receiving.{most_reads}
-use Rattle.kern_core.specs.declared.call.Call.{Call}
-use Rattle.kern_core.specs.declared.call.Reply.{Reply}
+use Rattle.kern_calls.specs.declared.call.Call.{Call}
+use Rattle.kern_calls.specs.declared.call.Reply.{Reply}
 use Rattle.kern_net.specs.declared.end.PumpEnd.{PumpEnd}
 use Rattle.kern_net.specs.declared.routes.IncomingRoute.{IncomingRoute}
 use Rattle.kern_net.specs.Routes.{Source, source_of}

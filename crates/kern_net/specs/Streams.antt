@@ -5,7 +5,7 @@ use Rattle.zmtp_wire.specs.Wire.{Bytes, Frames}
 use Rattle.zmtp_wire.specs.Writing.{message_bytes}
 use Rattle.kern_post.specs.declared.post.Post.{Post}
 use Rattle.kern_post.specs.Posts.{is_to}
-use Rattle.kern_core.specs.declared.call.Call.{Call}
+use Rattle.kern_calls.specs.declared.call.Call.{Call}
 use Rattle.kern_core.specs.Turns.{state_after}
 use Rattle.kern_desk.specs.Seats.{calls_of}
 use Rattle.kern_render.specs.Rendering.{IsRendered}

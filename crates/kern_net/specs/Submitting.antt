@@ -10,8 +10,8 @@ use Rattle.jup_wire.specs.declared.message.Message.{Message}
 use Rattle.jup_wire.specs.declared.message.Parts.{Parts}
 use Rattle.jup_wire.specs.Wire.{IsMessage}
 use Rattle.kern_request.specs.Requests.{request_of}
-use Rattle.kern_core.specs.declared.call.Call.{Call}
-use Rattle.kern_core.specs.declared.call.Call.TheVariants.{Arrive, Subscribe}
+use Rattle.kern_calls.specs.declared.call.Call.{Call}
+use Rattle.kern_calls.specs.declared.call.Call.TheVariants.{Arrive, Subscribe}
 use Rattle.kern_net.specs.Routes.{Source}
 
 -- the call for a message that opens under the source's key

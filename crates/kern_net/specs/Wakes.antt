@@ -6,8 +6,8 @@ use Rattle.kern_request.specs.declared.request.RequestBody.{RequestBody}
 use Rattle.kern_request.specs.declared.request.RequestBody.TheVariants as body
 use Rattle.kern_peers.specs.Connections.{Connections, subscribers}
 use Rattle.kern_post.specs.declared.post.Letter.{Letter}
-use Rattle.kern_core.specs.declared.call.Call.{Call}
-use Rattle.kern_core.specs.declared.call.Call.TheVariants.{Subscribe, Arrive}
+use Rattle.kern_calls.specs.declared.call.Call.{Call}
+use Rattle.kern_calls.specs.declared.call.Call.TheVariants.{Subscribe, Arrive}
 use Rattle.kern_core.specs.Requests.{plain_reply}
 use Rattle.kern_core.specs.States.{KernelState, Turn}
 use Rattle.kern_core.specs.Turns.{turn}

@@ -1,8 +1,8 @@
 //! Writing a connection's posts.
 ghost use Rattle.std.specs.Prelude.{◌≡◌, IfOk, IfErr, OnOk, Ok};
 ghost use Rattle.base_streams.specs.States.{IsWritable};
-ghost use Rattle.kern_core.specs.declared.call.Call.TheVariants.{Fetch};
-ghost use Rattle.kern_core.specs.declared.call.Reply.TheVariants.{Fetched};
+ghost use Rattle.kern_calls.specs.declared.call.Call.TheVariants.{Fetch};
+ghost use Rattle.kern_calls.specs.declared.call.Reply.TheVariants.{Fetched};
 ghost use Rattle.kern_net.specs.Calls.{TurnedBy};
 ghost use Rattle.kern_net.specs.Out.{WroteAll, CanWrite, PumpsOut, writer_with};
 ghost use Rattle.kern_net.specs.Rounds.{IsFetchAnswer, GivesBatch, FetchFails, WriteFails};

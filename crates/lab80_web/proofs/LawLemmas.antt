@@ -9,7 +9,7 @@ use Rattle.zmtp_wire.specs.Writing.{message_bytes}
 use Rattle.zmtp_wire.specs.declared.peer_fault.PeerFault.{PeerFault}
 use Rattle.zmtp_wire.proofs.FeedLemmas.{one_state}
 use Rattle.kern_post.specs.declared.post.Post.{Post}
-use Rattle.kern_core.specs.declared.call.Call.TheVariants.{Slice}
+use Rattle.kern_calls.specs.declared.call.Call.TheVariants.{Slice}
 use Rattle.kern_core.specs.States.{KernelState, kernel_before_calls}
 use Rattle.kern_core.specs.Turns.{next, state_after}
 use Rattle.kern_core.proofs.ShutLemmas.{when_shut}

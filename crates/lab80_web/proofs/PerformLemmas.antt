@@ -8,10 +8,10 @@ use Rattle.zmtp_wire.specs.Wire.{Frames}
 use Rattle.zmtp_wire.specs.Ends.{Refuses}
 use Rattle.zmtp_wire.specs.declared.peer_fault.PeerFault.{PeerFault}
 use Rattle.zmtp_wire.specs.declared.peer_fault.PeerFault.TheVariants as peer
-use Rattle.kern_core.specs.declared.call.Call.{Call}
-use Rattle.kern_core.specs.declared.call.Reply.{Reply}
-use Rattle.kern_core.specs.declared.fault.KernelFault.{KernelFault}
-use Rattle.kern_core.specs.declared.fault.KernelFault.TheVariants as fault
+use Rattle.kern_calls.specs.declared.call.Call.{Call}
+use Rattle.kern_calls.specs.declared.call.Reply.{Reply}
+use Rattle.kern_calls.specs.declared.fault.KernelFault.{KernelFault}
+use Rattle.kern_calls.specs.declared.fault.KernelFault.TheVariants as fault
 use Rattle.kern_core.specs.States.{KernelState}
 use Rattle.kern_core.specs.Turns.{turn, next}
 use Rattle.kern_core.specs.Represents.{KernelFields, RepresentsKernel, TakesTurn}

@@ -12,8 +12,8 @@ use Rattle.zmtp_wire.specs.Ends.{Refuses}
 use Rattle.zmtp_wire.specs.declared.peer_fault.PeerFault.{PeerFault}
 use Rattle.kern_post.specs.declared.post.Post.{Post}
 use Rattle.kern_post.specs.Posts.{as_posts}
-use Rattle.kern_core.specs.declared.call.Call.{Call}
-use Rattle.kern_core.specs.declared.call.Call.TheVariants.{Slice}
+use Rattle.kern_calls.specs.declared.call.Call.{Call}
+use Rattle.kern_calls.specs.declared.call.Call.TheVariants.{Slice}
 use Rattle.kern_core.specs.States.{KernelState}
 use Rattle.kern_core.specs.Turns.{turn, next}
 use Rattle.kern_core.specs.Represents.{KernelFields, RepresentsKernel}

@@ -2,10 +2,10 @@
 use Rattle.std.specs.Prelude.{ℕ, [], ◌∷◌, Bool, true, false, Result, Ok, Err, codes}
 use Rattle.std.specs.Int.{w64, to_be_bytes}
 use Rattle.base_text.specs.Bytes.{Bytes, Frames}
-use Rattle.kern_core.specs.declared.call.Reply.{Reply}
-use Rattle.kern_core.specs.declared.call.Reply.TheVariants as reply
-use Rattle.kern_core.specs.declared.fault.KernelFault.{KernelFault}
-use Rattle.kern_core.specs.declared.fault.KernelFault.TheVariants as fault
+use Rattle.kern_calls.specs.declared.call.Reply.{Reply}
+use Rattle.kern_calls.specs.declared.call.Reply.TheVariants as reply
+use Rattle.kern_calls.specs.declared.fault.KernelFault.{KernelFault}
+use Rattle.kern_calls.specs.declared.fault.KernelFault.TheVariants as fault
 use Rattle.lab80_web.specs.declared.answer.Answer.{Answer}
 use Rattle.lab80_web.specs.declared.answer.Answer.TheVariants as answer
 use Rattle.lab80_web.specs.declared.answer.Refusal.{Refusal}

@@ -5,7 +5,7 @@ use Rattle.base_text.specs.Bytes.{Bytes, Frames}
 use Rattle.jup_wire.specs.declared.channel.Channel.{Channel}
 use Rattle.jup_wire.specs.declared.channel.Channel.TheVariants.{Shell, Control, Stdin, Iopub}
 use Rattle.kern_request.specs.declared.request.Request.{Request}
-use Rattle.kern_core.specs.declared.call.Call.TheVariants as call
+use Rattle.kern_calls.specs.declared.call.Call.TheVariants as call
 use Rattle.lab80_web.specs.declared.answer.Refusal.TheVariants.{NotMessage, NotItem, NoConnection}
 use Rattle.lab80_web.specs.declared.items.Item.{Item}
 use Rattle.lab80_web.specs.declared.items.Item.TheVariants as item

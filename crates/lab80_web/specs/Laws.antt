@@ -2,7 +2,7 @@
 use Rattle.std.specs.Prelude.{List, [], ◌∷◌, ◌++◌, Option, Some, None}
 use Rattle.zmtp_wire.specs.Wire.{Messages}
 use Rattle.kern_post.specs.declared.post.Post.{Post}
-use Rattle.kern_core.specs.declared.call.Call.{Call}
+use Rattle.kern_calls.specs.declared.call.Call.{Call}
 use Rattle.kern_core.specs.States.{KernelState}
 use Rattle.lab80_web.specs.Items.{item_of}
 use Rattle.lab80_web.specs.Outputs.{Output, OfPost, OfAnswer}

@@ -4,8 +4,8 @@ use Rattle.std.specs.Prelude.{if◌then◌else◌}
 use Rattle.std.specs.List.{fold}
 use Rattle.zmtp_wire.specs.Wire.{Frames, Messages}
 use Rattle.kern_post.specs.declared.post.Post.{Post}
-use Rattle.kern_core.specs.declared.call.Call.{Call}
-use Rattle.kern_core.specs.declared.call.Call.TheVariants.{Slice}
+use Rattle.kern_calls.specs.declared.call.Call.{Call}
+use Rattle.kern_calls.specs.declared.call.Call.TheVariants.{Slice}
 use Rattle.kern_core.specs.States.{KernelState, kernel_before_calls}
 use Rattle.kern_core.specs.Turns.{turn, next}
 use Rattle.lab80_web.specs.declared.answer.Answer.{Answer}

@@ -10,7 +10,7 @@ use Rattle.zmtp_wire.specs.Ends.{Refuses}
 use Rattle.zmtp_wire.specs.Stream.{DecoderState, Completes}
 use Rattle.base_streams.specs.States.{OutletState, IsWritable}
 use Rattle.kern_post.specs.Posts.{kept_post}
-use Rattle.kern_core.specs.declared.call.Call.{Call}
+use Rattle.kern_calls.specs.declared.call.Call.{Call}
 use Rattle.kern_core.specs.States.{KernelState}
 use Rattle.kern_core.specs.Turns.{next}
 use Rattle.kern_core.specs.Represents.{KernelFields, RepresentsKernel}

@@ -1,7 +1,7 @@
 //! What items do to the kernel.
 ghost use Rattle.std.specs.Prelude.{[], ◌∷◌, OnOk};
 ghost use Rattle.base_streams.specs.States.{IsWritable};
-ghost use Rattle.kern_core.specs.declared.call.Call.TheVariants.{Slice};
+ghost use Rattle.kern_calls.specs.declared.call.Call.TheVariants.{Slice};
 ghost use Rattle.lab80_web.specs.declared.items.Item.TheVariants as item;
 ghost use Rattle.lab80_web.specs.Steps.{server, effect_of_call, effect_of_item, ActsOn, HasEffect};
 ghost use Rattle.lab80_web.specs.Steps.{AnswersMessages};

@@ -7,11 +7,11 @@ ghost use Rattle.kern_peers.specs.Connections.{same_channel};
 ghost use Rattle.kern_core.specs.Represents.{RepresentsKernel, MakesTurn, TakesTurn, HasRoom};
 ghost use Rattle.kern_core.specs.States.{KernelState as KernelStateOf};
 
-use crate::call::Reply;
-use crate::fault::KernelFault;
 use crate::state::KernelState;
 use base_text::sequence::{Bytes, Sequence};
 use jup_wire::channel::Channel;
+use kern_calls::call::Reply;
+use kern_calls::fault::KernelFault;
 use kern_post::content::{Content, ExecutionState};
 use kern_post::letters::Letters;
 use kern_post::post::{Envelope, Head, Letter, copy_bytes};

@@ -9,14 +9,14 @@ ghost use Rattle.kern_core.specs.Debugging.{IsPreparedDebugReply, AnswersWith};
 ghost use Rattle.kern_core.specs.States.{KernelState as KernelStateOf};
 ghost use Rattle.kern_core.specs.Represents.{RepresentsKernel, TakesTurn, HasRoom};
 
-use crate::call::Reply;
-use crate::fault::KernelFault;
 use crate::state::KernelState;
 use base_text::text::Text;
 use dap_answers::answer::{Body, Outcome, Response};
 use dap_board::names::{event_after, outcome_of};
 use dap_board::perform::perform;
 use dap_talk::command::{DapCommand, DapRequest};
+use kern_calls::call::Reply;
+use kern_calls::fault::KernelFault;
 use kern_exec::letters::{BusyIdle, address, busy_idle, publish};
 use kern_post::content::{Cause, Content};
 use kern_post::letters::Letters;

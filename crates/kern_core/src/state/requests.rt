@@ -12,13 +12,13 @@ ghost use Rattle.lab_core.specs.Events.{reset as reset_of};
 ghost use Rattle.kern_core.specs.States.{KernelState as KernelStateOf, after, posting};
 ghost use Rattle.kern_core.specs.Represents.{RepresentsKernel, TakesTurn, HasRoom, Grows};
 
-use crate::call::Reply;
-use crate::fault::KernelFault;
 use crate::replies::plain_reply;
 use crate::state::KernelState;
 use crate::state::connections::is_iopub;
 use base_text::sequence::Bytes;
 use base_text::text::Text;
+use kern_calls::call::Reply;
+use kern_calls::fault::KernelFault;
 use kern_exec::ends::{PreparedEnd, cut_letters, prepare_end, push_end};
 use kern_exec::execution::Execution;
 use kern_exec::letters::{BusyIdle, busy_idle, publish, reply};

@@ -15,10 +15,10 @@ ghost use Rattle.kern_core.specs.Running.{IsPreparedFor};
 ghost use Rattle.kern_core.specs.States.{KernelState as KernelStateOf};
 ghost use Rattle.kern_core.specs.Represents.{RepresentsSomeState, TakesTurn, TakesTurnIn, HasRoom};
 
-use crate::call::Reply;
-use crate::fault::KernelFault;
 use crate::state::KernelState;
 use i80_devs::traffic::Traffic;
+use kern_calls::call::Reply;
+use kern_calls::fault::KernelFault;
 use kern_exec::cells::{PreparedLoading, letters_of as loading_letters, load, prepare_loading};
 use kern_exec::executions::count_with;
 use kern_exec::loading::Loading;

@@ -1,6 +1,6 @@
 use Rattle.std.proofs.Common.{refl}
-use Rattle.kern_core.specs.declared.call.Call.TheVariants.{Join}
-use Rattle.kern_core.specs.declared.fault.KernelFault.TheVariants.{JournalFull}
+use Rattle.kern_calls.specs.declared.call.Call.TheVariants.{Join}
+use Rattle.kern_calls.specs.declared.fault.KernelFault.TheVariants.{JournalFull}
 use Rattle.kern_desk.specs.Joins.{IsOutOfTickets}
 use Rattle.kern_desk.proofs.JoinLemmas.{join_answer, unjoined_by, came_by}
 use Rattle.kern_desk.proofs.desks.join.Goals as goal

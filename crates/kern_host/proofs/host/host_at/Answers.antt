@@ -1,7 +1,7 @@
 use Rattle.std.proofs.Common.{◌≡◌, ℕ, List, sym, subst, All, length, arith}
 use Rattle.std.proofs.lemmas.List.Elements.{All-push}
 use Rattle.lab_turn.specs.History.{PassState, IsHistoryOf, IsLegal}
-use Rattle.kern_core.specs.declared.call.Call.{Call}
+use Rattle.kern_calls.specs.declared.call.Call.{Call}
 use Rattle.kern_host.specs.Visits.{house_of}
 use Rattle.kern_host.proofs.HostLemmas.{serves_each, works_in}
 use Rattle.kern_host.proofs.host.host_at.Goals as goal

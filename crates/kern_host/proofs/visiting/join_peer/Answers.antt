@@ -1,5 +1,5 @@
 use Rattle.std.proofs.Common.{◌≡◌, refl}
-use Rattle.kern_core.specs.declared.fault.KernelFault.TheVariants.{OutOfMemory}
+use Rattle.kern_calls.specs.declared.fault.KernelFault.TheVariants.{OutOfMemory}
 use Rattle.kern_host.specs.Visits.{identity_of, NoMemory}
 use Rattle.kern_host.proofs.VisitLemmas.{not_taken}
 use Rattle.kern_host.proofs.visiting.join_peer.Goals as goal

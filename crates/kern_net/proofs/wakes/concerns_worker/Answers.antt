@@ -1,5 +1,5 @@
 use Rattle.std.proofs.Common.{◌∙◌, sym, ap, not}
-use Rattle.kern_core.specs.declared.call.Arrival.{Arrival}
+use Rattle.kern_calls.specs.declared.call.Arrival.{Arrival}
 use Rattle.kern_net.specs.Wakes.{spared_by, concerns_worker}
 use Rattle.kern_net.proofs.WakeLemmas.{gives_none}
 use Rattle.kern_net.proofs.wakes.concerns_worker.Goals as goal

@@ -7,7 +7,7 @@ use Rattle.kern_post.specs.declared.post.Letter.{Letter}
 use Rattle.kern_post.specs.declared.content.Cause.TheVariants as cause
 use Rattle.kern_post.specs.declared.content.Content.TheVariants as content
 use Rattle.kern_exec.specs.Letters.{between_busy_and_idle}
-use Rattle.kern_core.specs.declared.call.Reply.TheVariants.{Arrived}
+use Rattle.kern_calls.specs.declared.call.Reply.TheVariants.{Arrived}
 use Rattle.kern_core.specs.States.{Turn, after, posting}
 use Rattle.kern_core.specs.Requests.{reply_to, cut_letters, cut_work, with_board}
 use Rattle.kern_core.specs.Represents.{RepresentsKernel}

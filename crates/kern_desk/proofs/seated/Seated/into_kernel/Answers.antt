@@ -1,5 +1,5 @@
 use Rattle.std.proofs.Common.{◌∙◌, List, ap, sym}
-use Rattle.kern_core.specs.declared.call.Call.{Call}
+use Rattle.kern_calls.specs.declared.call.Call.{Call}
 use Rattle.kern_core.specs.Kernels.{JournalState}
 use Rattle.kern_desk.specs.Seats.{SeatedState, calls_of}
 use Rattle.kern_desk.proofs.SeatLemmas.{calls-zip}

@@ -25,7 +25,7 @@ pub enum KernelFault {
 }
 
 impl From<AllocError> for KernelFault {
-    ghost use Rattle.kern_core.specs.declared.fault.KernelFault.TheVariants.{OutOfMemory};
+    ghost use Rattle.kern_calls.specs.declared.fault.KernelFault.TheVariants.{OutOfMemory};
 
     ghost from_gives = { λ _ fault. fault ≡ OutOfMemory };
 
