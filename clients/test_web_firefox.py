@@ -31,8 +31,8 @@ class InFirefox:
 
 
 @only("lamps_switches_and_a_button", "reset_is_asked_once_more", "a_stop_and_steps_by_line", "steps_by_instruction_and_keys",
-      "what_is_shown_of_a_stop", "changes_by_hand", "lines_are_typed", "two_pages_on_one_board", "a_page_that_is_closed_ends_nothing",
-      "texts_are_shown_as_texts")
+      "what_is_shown_of_a_stop", "changes_by_hand", "lines_are_typed", "two_pages_on_one_board",
+      "a_page_that_is_closed_ends_nothing", "texts_are_shown_as_texts")
 class Panel(InFirefox, test_web_panel.Panel):
     pass
 

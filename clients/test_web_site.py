@@ -184,8 +184,8 @@ class Shares(SitePages):
         page.waits(lambda: page.run(CELL) == text)
         self.assertEqual(page.run("return [location.hash, window.hurt || 0, document.images.length]"), ["", 0, 0])
         page = self.open(path="?turned#cell=" + shared("; \u202e END".encode()))
-        page.says("Shared address: the program has characters that turn the direction of writing, and would read otherwise than it "
-                  "runs. It was passed over")
+        page.says("Shared address: the program has characters that turn the direction of writing, and would read otherwise than "
+                  "it runs. It was passed over")
 
 
 class Sessions(SitePages):
@@ -267,7 +267,8 @@ class Sessions(SitePages):
         page.is_in("running")
         time.sleep(6)
         page.run("window.isOld = true; location.reload()")
-        page.waits(lambda: page.run("return !window.isOld") and page.run(BAR).startswith("The board is made again from its session"))
+        page.waits(lambda: page.run("return !window.isOld"))
+        self.bar(page, "The board is made again from its session: ")
         page.click("#site button")
         page.is_in("idle")
         self.assertEqual(page.texts("#symbols button"), [])

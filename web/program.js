@@ -54,9 +54,9 @@ class Streams {
     }
 }
 
-/** Runs a module's program for a board until it ends, and then returns why, in words. The host's `wake()`, which is set here, tells
- *  that a window has something. Where nothing can be suspended, `listen(patience)` takes what windows have, for which it waits so
- *  many milliseconds. */
+/** Runs a module's program for a board until it ends, and then returns why, in words. The host's `wake()`, which is set here,
+ *  tells that a window has something. Where nothing can be suspended, `listen(patience)` takes what windows have, for which it
+ *  waits so many milliseconds. */
 export async function runProgram(module, board, opening, host) {
     const streams = new Streams(board, opening), write = (...given) => streams.write(...given);
     const read = canSuspend ? new WebAssembly.Suspending(suspended(streams, host)) : sleeping(streams, host);

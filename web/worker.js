@@ -30,7 +30,7 @@ const keeping = {last: 0, isUnder: false, isRefused: false};
 /** Keeps what the session has more than what is kept. A worker that sleeps has its window do that. */
 function keep() {
     const {session} = board;
-    if (keeping.isUnder || keeping.isRefused || !session.isChanged) return;
+    if (board.isOver || keeping.isUnder || keeping.isRefused || !session.isChanged) return;
     keeping.last = performance.now();
     if (session.isFull) return refuseKeeping(TOO_LONG);
     const changes = session.changes();
@@ -56,7 +56,10 @@ const host = {
     keep,
     deliver: (port, text) => port.postMessage({type: "message", text}),
     opened: port => port.postMessage({type: "opened"}),
-    refuse: (port, why) => port.postMessage({type: "refused", why}),
+    refuse(port, why) {
+        windows.delete(port);
+        port.postMessage({type: "refused", why});
+    },
     ended: isRestart => isRestart ? restart() : end("It was shut down"),
     listen(patience) {
         for (let text = pages.mail.receive(patience); text !== null; text = pages.mail.receive()) take(self, JSON.parse(text));
@@ -72,7 +75,9 @@ const host = {
 
 /** Begins with a session that was kept, or with a new one. */
 async function begin(kept) {
-    const session = kept ? new Session(kept.name, kept.chunks) : new Session(newName()), mine = board = new Board(session, host);
+    const session = kept ? new Session(kept.name, kept.chunks) : new Session(newName());
+    if (board) board.isOver = true;
+    const mine = board = new Board(session, host);
     keeping.isRefused = false;
     Object.assign(host, {began: performance.now(), told: 0});
     for (const each of windows.keys()) board.join(each);
@@ -168,7 +173,10 @@ async function own(work) {
 }
 
 async function load() {
-    begin(await loadSession(self.name).catch(() => null));
+    const kept = await loadSession(self.name).catch(() => null);
+    // of one that isn't whole nothing may stay
+    if (!kept) await dropSession(self.name).catch(() => {});
+    begin(kept);
     dropOld().catch(() => {});
     setInterval(keep, KEEP_EVERY);
 }

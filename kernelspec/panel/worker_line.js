@@ -8,15 +8,16 @@ import {addressOn} from "./server.js";
 
 export const startsAtOnce = true, hasJournal = false;
 
-// A program that can be suspended is run by a SharedWorker, which hears from several windows. Else a window has a worker of its own,
-// which sleeps while it waits for the window.
+// A program that can be suspended is run by a SharedWorker, which hears from several windows. Else a window has a worker of its
+// own, which sleeps while it waits for the window.
 const NO_MEMORY = "This browser can run a board only if a service worker has isolated the page. Load the page anew";
 const REFUSED = "The browser keeps nothing here, or its room is used up";
 
 const CONNECTING = 0, OPEN = 1, CLOSED = 3;
 const workers = addressOn("web/worker.js");
 
-// What is told besides messages, each {kernel, type, ..}: `opened`, `ended`, `anew`, `progress`, `unkept`, `elsewhere`, `here`, `told`.
+// What is told besides messages, each {kernel, type, ..}: `opened`, `ended`, `anew`, `progress`, `unkept`, `elsewhere`, `here`,
+// `told`.
 const listeners = [], early = [];
 const tell = (kernel, told) => listeners.length === 0 ? early.push({kernel, ...told}) : notify({kernel, ...told});
 const notify = told => { for (const each of listeners) each(told); };
