@@ -8,6 +8,7 @@ const MOST_BOARDS = 8, VERSION = 1;
 const SESSIONS = "sessions", CHUNKS = "chunks", STORES = [SESSIONS, CHUNKS];
 const DATABASE = {
     name: "lab80 sessions",
+    staysOpen: true,
     makeStores(database) {
         database.createObjectStore(SESSIONS, {keyPath: "board"});
         database.createObjectStore(CHUNKS);
