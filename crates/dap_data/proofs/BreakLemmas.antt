@@ -9,7 +9,7 @@ use Rattle.dap_slice.specs.declared.conditions.ConditionalBreakpoint.{Conditiona
 use Rattle.dap_slice.specs.declared.conditions.Trigger.TheVariants.{Address}
 use Rattle.dap_messages.specs.declared.message.BreakpointNote.{BreakpointNote}
 use Rattle.dap_messages.specs.declared.message.PlacedBreakpoint.{PlacedBreakpoint}
-use Rattle.dap_editor.specs.declared.request.InstructionBreakpoint.{InstructionBreakpoint}
+use Rattle.dap_requests.specs.declared.request.InstructionBreakpoint.{InstructionBreakpoint}
 use Rattle.dap_points.specs.declared.placed.CheckedInstruction.{CheckedInstruction}
 use Rattle.dap_points.specs.Placed.{id_at, met_where, instruction_point_unless, instruction_point}
 use Rattle.dap_lines.specs.Conditions.{objection, stop_at}

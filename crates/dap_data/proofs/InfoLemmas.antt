@@ -13,7 +13,7 @@ use Rattle.lab_shown.specs.declared.scope.Scope.TheVariants as scope
 use Rattle.lab_shown.specs.Scopes.{scope_with}
 use Rattle.lab_core.specs.Board.{Board}
 use Rattle.dap_expr.specs.Expressions.{expression_of}
-use Rattle.dap_editor.specs.declared.request.DataQuery.{DataQuery}
+use Rattle.dap_requests.specs.declared.request.DataQuery.{DataQuery}
 use Rattle.dap_data.specs.declared.info.QueryFault.{QueryFault}
 use Rattle.dap_data.specs.declared.info.QueryFault.TheVariants as fault
 use Rattle.dap_data.specs.declared.place.DataPlace.{DataPlace}

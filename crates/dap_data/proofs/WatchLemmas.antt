@@ -12,7 +12,7 @@ use Rattle.dap_slice.specs.declared.conditions.Trigger.TheVariants.{Change}
 use Rattle.dap_messages.specs.declared.message.BreakpointNote.{BreakpointNote}
 use Rattle.dap_messages.specs.declared.message.BreakpointNote.TheVariants.{Wrong, TooManyData}
 use Rattle.dap_messages.specs.declared.message.PlacedBreakpoint.{PlacedBreakpoint}
-use Rattle.dap_editor.specs.declared.request.DataBreakpoint.{DataBreakpoint}
+use Rattle.dap_requests.specs.declared.request.DataBreakpoint.{DataBreakpoint}
 use Rattle.dap_points.specs.declared.placed.CheckedData.{CheckedData}
 use Rattle.dap_points.specs.Placed.{id_at, unmet_at, met_where, data_point_unless, data_point}
 use Rattle.dap_lines.specs.Conditions.{objection, stop_at, stop_by}

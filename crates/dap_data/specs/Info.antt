@@ -18,7 +18,7 @@ use Rattle.dap_expr.specs.declared.expression.Expression.{Expression}
 use Rattle.dap_expr.specs.Expressions.{expression_of}
 use Rattle.dap_expr.specs.Values.{value_on}
 use Rattle.dap_messages.specs.declared.message.DataInfo.{DataInfo}
-use Rattle.dap_editor.specs.declared.request.DataQuery.{DataQuery}
+use Rattle.dap_requests.specs.declared.request.DataQuery.{DataQuery}
 use Rattle.dap_data.specs.declared.place.DataPlace.{DataPlace}
 use Rattle.dap_data.specs.declared.place.DataPlace.TheVariants.{Register, Pair, Bytes}
 use Rattle.dap_data.specs.declared.info.QueryFault.{QueryFault}

@@ -9,8 +9,8 @@ use Rattle.dap_slice.specs.declared.hits.HitCondition.{HitCondition}
 use Rattle.dap_messages.specs.declared.message.BreakpointOptions.{BreakpointOptions}
 use Rattle.dap_messages.specs.declared.message.DataInfo.{DataInfo}
 use Rattle.dap_messages.specs.declared.message.PlacedBreakpoint.{PlacedBreakpoint}
-use Rattle.dap_editor.specs.declared.request.DataBreakpoint.{DataBreakpoint}
-use Rattle.dap_editor.specs.declared.request.InstructionBreakpoint.{InstructionBreakpoint}
+use Rattle.dap_requests.specs.declared.request.DataBreakpoint.{DataBreakpoint}
+use Rattle.dap_requests.specs.declared.request.InstructionBreakpoint.{InstructionBreakpoint}
 use Rattle.dap_lines.specs.Conditions.{condition_read, hits_read, stop_at}
 use Rattle.dap_data.specs.declared.place.DataPlace.{DataPlace}
 use Rattle.dap_data.specs.Places.{data_named, places_of}

@@ -9,7 +9,7 @@ use Rattle.dap_slice.specs.declared.conditions.Trigger.TheVariants.{Change}
 use Rattle.dap_messages.specs.declared.message.BreakpointNote.{BreakpointNote}
 use Rattle.dap_messages.specs.declared.message.BreakpointNote.TheVariants.{Wrong}
 use Rattle.dap_messages.specs.declared.message.PlacedBreakpoint.{PlacedBreakpoint}
-use Rattle.dap_editor.specs.declared.request.DataBreakpoint.{DataBreakpoint}
+use Rattle.dap_requests.specs.declared.request.DataBreakpoint.{DataBreakpoint}
 use Rattle.dap_points.specs.declared.placed.CheckedData.{CheckedData}
 use Rattle.dap_points.specs.Placed as placed
 use Rattle.dap_lines.specs.Conditions.{objection, stop_by}

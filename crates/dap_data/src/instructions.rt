@@ -7,10 +7,10 @@ ghost use Rattle.dap_data.specs.Instructions.{instruction_objection, checked_ins
 ghost use Rattle.dap_data.specs.Instructions.{break_at, break_of, breaks_on};
 
 use base_text::sequence::Sequence;
-use dap_editor::request::InstructionBreakpoint;
 use dap_lines::conditions::{objection, push_point, stop_by};
 use dap_messages::message::{BreakpointNote, PlacedBreakpoint};
 use dap_points::placed::{CheckedInstruction, instruction_points as placed_points};
+use dap_requests::request::InstructionBreakpoint;
 use dap_slice::conditions::{ConditionalBreakpoint, ConditionalBreakpoints, Trigger};
 use lab_core::lab::Lab;
 use std::alloc::{AllocError, Global};

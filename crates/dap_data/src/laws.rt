@@ -3,9 +3,9 @@ ghost use Rattle.std.specs.Prelude.{◌≡◌, ◌++◌, ◌≤◌, ◌+◌, ℕ
 ghost use Rattle.base_text.specs.Bytes.{Text};
 ghost use Rattle.lab_core.specs.Board.{Board};
 ghost use Rattle.dap_slice.specs.declared.conditions.ConditionalBreakpoint.{ConditionalBreakpoint};
-ghost use Rattle.dap_editor.specs.declared.request.DataQuery.{DataQuery};
-ghost use Rattle.dap_editor.specs.declared.request.DataBreakpoint.{DataBreakpoint};
-ghost use Rattle.dap_editor.specs.declared.request.InstructionBreakpoint.{InstructionBreakpoint};
+ghost use Rattle.dap_requests.specs.declared.request.DataQuery.{DataQuery};
+ghost use Rattle.dap_requests.specs.declared.request.DataBreakpoint.{DataBreakpoint};
+ghost use Rattle.dap_requests.specs.declared.request.InstructionBreakpoint.{InstructionBreakpoint};
 ghost use Rattle.dap_data.specs.declared.place.DataPlace.TheVariants.{Bytes};
 ghost use Rattle.dap_data.specs.Places.{registers, pairs, id_of, data_named};
 ghost use Rattle.dap_data.specs.Info.{data_info};

@@ -12,10 +12,10 @@ ghost use Rattle.dap_data.specs.Points.{watches_at, watches_of, watches_by, watc
 use crate::place::DataPlace;
 use base_text::sequence::Sequence;
 use base_text::text::Text;
-use dap_editor::request::DataBreakpoint;
 use dap_lines::conditions::{objection, push_point, stop_by};
 use dap_messages::message::{BreakpointNote, PlacedBreakpoint};
 use dap_points::placed::{CheckedData, data_points as placed_points};
+use dap_requests::request::DataBreakpoint;
 use dap_slice::conditions::{ConditionalBreakpoints, Trigger};
 use lab_core::lab::Lab;
 use lab_shown::place::Place;

@@ -7,9 +7,9 @@ use Rattle.base_streams.specs.States.{OutletState}
 use Rattle.base_streams.specs.Told.{Took, TookPrefix}
 use Rattle.dap_messages.specs.declared.message.Numbering.{Numbering}
 use Rattle.dap_messages.specs.Numbering.{numbering_of}
-use Rattle.dap_editor.specs.declared.request.EditorRequest.{EditorRequest}
+use Rattle.dap_requests.specs.declared.request.EditorRequest.{EditorRequest}
 use Rattle.dap_launch.specs.declared.file.FileText.{FileText}
-use Rattle.dap_launch.specs.Paths.{path_in, with_canonical}
+use Rattle.dap_debugger.specs.Paths.{path_in, with_canonical}
 use Rattle.dap_session.specs.States.{SessionState}
 use Rattle.dap_session.specs.Requests.{wanted_file}
 use Rattle.dap_record.specs.Recordings.{recorded_before_requests}

@@ -2,8 +2,8 @@
 use Rattle.std.specs.Prelude.{Option, Some, None, nat_lt, length, if◌then◌else◌}
 use Rattle.std.specs.Str.{is_utf8}
 use Rattle.base_text.specs.Bytes.{Bytes, Text}
-use Rattle.dap_file.specs.declared.kind.ImageKind.{ImageKind}
-use Rattle.dap_file.specs.Kinds.{kind_of}
+use Rattle.dap_messages.specs.declared.file_kind.ImageKind.{ImageKind}
+use Rattle.dap_messages.specs.FileKinds.{kind_of}
 use Rattle.dap_launch.specs.declared.file.FileText.{FileText}
 use Rattle.dap_launch.specs.declared.file.FileText.TheVariants as file
 

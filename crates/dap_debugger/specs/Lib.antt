@@ -5,3 +5,4 @@ pub mod KnownFiles
 pub mod LaunchTexts
 pub mod Requests
 pub mod Sending
+pub mod Paths

@@ -5,8 +5,8 @@ use Rattle.base_text.specs.Bytes.{Bytes}
 use Rattle.serde_json.specs.Data.{Data}
 use Rattle.serde_json.specs.Read.{read}
 use Rattle.dap_messages.specs.declared.message.Numbering.{Numbering}
-use Rattle.dap_editor.specs.declared.request.EditorRequest.{EditorRequest}
-use Rattle.dap_editor.specs.Reading.{editor_request, unreadable}
+use Rattle.dap_requests.specs.declared.request.EditorRequest.{EditorRequest}
+use Rattle.dap_reading.specs.Reading.{editor_request, unreadable}
 
 -- the value of a body that is one JSON text in UTF-8 (RFC 8259), with arrays and objects nested at most 127
 -- deep

@@ -2,7 +2,7 @@
 ghost use Rattle.std.specs.Prelude.{◌≡◌, ◌++◌, ◌∷◌, [], List, OnOk, IfOk, IfErr};
 ghost use Rattle.base_text.specs.Bytes.{Bytes};
 ghost use Rattle.base_streams.specs.States.{OutletState};
-ghost use Rattle.dap_launch.specs.Paths.{path_in};
+ghost use Rattle.dap_debugger.specs.Paths.{path_in};
 ghost use Rattle.dap_session.specs.Requests.{wanted_file};
 ghost use Rattle.dap_record.specs.Recordings.{RecordedState};
 ghost use Rattle.dap_record.specs.Represents.{RepresentsRecorded};
@@ -14,13 +14,13 @@ ghost use Rattle.dap_debugger.specs.Conversations.{HasConversed, HasAnswered, Co
 
 use crate::debugger::Debugger;
 use crate::incoming::{BodySource, Incoming, ProgramFiles, StreamEnd};
+use crate::paths::{named_path, with_canonical};
 use crate::requests::read_request;
 use base_streams::ports::Outlet;
 use base_streams::writing::write_all;
 use base_text::text::Text;
-use dap_editor::request::EditorRequest;
 use dap_launch::file::FileText;
-use dap_launch::paths::{named_path, with_canonical};
+use dap_requests::request::EditorRequest;
 use std::alloc::{AllocError, Global};
 use std::sync::Wait;
 

@@ -5,10 +5,10 @@ ghost use Rattle.dap_record.specs.Slices.{Input, request as asks};
 
 use crate::sending::{Progress, put_all};
 use base_text::sequence::{Bytes, Sequence};
-use dap_editor::request::EditorRequest;
 use dap_launch::file::FileText;
 use dap_messages::message::{Message, Numbering};
 use dap_record::recorded::RecordedSession;
+use dap_requests::request::EditorRequest;
 use std::alloc::{AllocError, Global};
 use std::marker::Model;
 

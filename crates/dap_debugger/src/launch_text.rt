@@ -4,8 +4,8 @@ ghost use Rattle.dap_debugger.specs.LaunchTexts.{file_as, file_text};
 
 use base_text::sequence::Bytes;
 use base_text::text::Text;
-use dap_file::kind::image_kind;
 use dap_launch::file::FileText;
+use dap_messages::file_kind::image_kind;
 
 /// The most bytes that a program's text may have.
 pub const TEXT_SIZE: usize = 1_048_576;

@@ -10,5 +10,6 @@ pub mod conversation;
 pub mod debugger;
 pub mod incoming;
 pub mod launch_text;
+pub mod paths;
 pub mod requests;
 mod sending;

@@ -3,9 +3,9 @@ ghost use Rattle.std.specs.Prelude.{◌≡◌, IfOk, option_map};
 ghost use Rattle.serde_json.specs.View.{view};
 ghost use Rattle.dap_debugger.specs.Requests.{json_of, request_of};
 
-use dap_editor::reading::read_editor_request;
-use dap_editor::request::EditorRequest;
 use dap_messages::message::Numbering;
+use dap_reading::reading::{read_editor_request, unreadable};
+use dap_requests::request::EditorRequest;
 use serde_json::Value;
 use std::alloc::{AllocError, Global};
 
@@ -31,6 +31,6 @@ pub fn read_request(
 {
     match read_json(alloc, body)? {
         Some(value) => read_editor_request(alloc, numbering, &value),
-        None => Ok(EditorRequest::unreadable(alloc)),
+        None => Ok(unreadable(alloc)),
     }
 }

@@ -17,8 +17,8 @@ use Rattle.i80_listings_laws.specs.Runs.{present}
 use Rattle.i80_listings_laws.specs.Text.{listings_of}
 use Rattle.i80_listings_laws.specs.Law.{HaveBytes, AssemblesWith}
 use Rattle.i80_listings_laws.proofs.Assembled.{listings_assemble}
-use Rattle.dap_file.specs.declared.kind.ImageKind.{ImageKind}
-use Rattle.dap_file.specs.declared.kind.ImageKind.TheVariants as kind
+use Rattle.dap_messages.specs.declared.file_kind.ImageKind.{ImageKind}
+use Rattle.dap_messages.specs.declared.file_kind.ImageKind.TheVariants as kind
 use Rattle.dap_image.specs.declared.fault.ImageFault.{ImageFault}
 use Rattle.dap_image.specs.declared.fault.ImageFault.TheVariants as fault
 use Rattle.dap_image.specs.declared.text.ImagePlace.{ImagePlace}

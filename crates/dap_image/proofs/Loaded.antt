@@ -19,7 +19,7 @@ use Rattle.lab_image.specs.Sources.{source_from, with_text, place_of}
 use Rattle.lab_core.specs.declared.run_state.RunState.TheVariants.{NoRun}
 use Rattle.lab_core.specs.Board.{Board, opening}
 use Rattle.lab_core.specs.Events.{with_cell, cell_meaning}
-use Rattle.dap_file.specs.declared.kind.ImageKind.{ImageKind}
+use Rattle.dap_messages.specs.declared.file_kind.ImageKind.{ImageKind}
 use Rattle.dap_image.specs.declared.text.ImagePlace.{ImagePlace}
 use Rattle.dap_image.specs.Images.{Cells}
 use Rattle.dap_image.specs.Texts.{program_for, text_for}

@@ -5,8 +5,8 @@ use Rattle.std.specs.List.{position}
 use Rattle.asm_hex.specs.Outcome.{FileFault}
 use Rattle.asm_hex.specs.Contents.{hex_of}
 use Rattle.asm_hex.specs.Cells.{cells_of}
-use Rattle.dap_file.specs.declared.kind.ImageKind.{ImageKind}
-use Rattle.dap_file.specs.declared.kind.ImageKind.TheVariants as kind
+use Rattle.dap_messages.specs.declared.file_kind.ImageKind.{ImageKind}
+use Rattle.dap_messages.specs.declared.file_kind.ImageKind.TheVariants as kind
 use Rattle.dap_image.specs.declared.fault.ImageFault.{ImageFault}
 use Rattle.dap_image.specs.declared.fault.ImageFault.TheVariants as fault
 

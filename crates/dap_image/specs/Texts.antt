@@ -6,7 +6,7 @@ use Rattle.std.specs.Str.Lines.{lines}
 use Rattle.base_text.specs.Bytes.{Text}
 use Rattle.asm_hex.specs.Outcome.{◌>>=◌}
 use Rattle.i80_listings_laws.specs.Text.{listings_of}
-use Rattle.dap_file.specs.declared.kind.ImageKind.{ImageKind}
+use Rattle.dap_messages.specs.declared.file_kind.ImageKind.{ImageKind}
 use Rattle.dap_image.specs.declared.fault.ImageFault.{ImageFault}
 use Rattle.dap_image.specs.declared.fault.ImageFault.TheVariants as fault
 use Rattle.dap_image.specs.declared.text.ImagePlace.{ImagePlace}

@@ -8,7 +8,7 @@ use crate::fault::ImageFault;
 use asm_hex::fault::HexFault;
 use asm_hex::memory::cells;
 use asm_hex::reading::read_hex;
-use dap_file::kind::ImageKind;
+use dap_messages::file_kind::ImageKind;
 use i80_base::memory::MEMORY_SIZE;
 use std::alloc::{AllocError, Global};
 

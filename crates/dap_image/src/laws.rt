@@ -5,7 +5,7 @@ ghost use Rattle.asm_build.specs.Reading.{Entries};
 ghost use Rattle.i80_listings_laws.specs.Runs.{present};
 ghost use Rattle.i80_listings_laws.specs.Law.{AssemblesWith};
 ghost use Rattle.lab_core.specs.Board.{Board, opening};
-ghost use Rattle.dap_file.specs.declared.kind.ImageKind.{ImageKind};
+ghost use Rattle.dap_messages.specs.declared.file_kind.ImageKind.{ImageKind};
 ghost use Rattle.dap_image.specs.declared.text.ImagePlace.{ImagePlace};
 ghost use Rattle.dap_image.specs.Images.{Cells};
 ghost use Rattle.dap_image.specs.Texts.{program_for, text_for};

@@ -8,7 +8,7 @@ use crate::fault::ImageFault;
 use crate::image::{image_of, start_in};
 use asm_syntax::statement::MOST_LINES;
 use base_text::text::Text;
-use dap_file::kind::ImageKind;
+use dap_messages::file_kind::ImageKind;
 use i80_base::memory::MEMORY_SIZE;
 use i80_listings::listings::listings;
 use std::alloc::Global;

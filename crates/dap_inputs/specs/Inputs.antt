@@ -14,10 +14,10 @@ use Rattle.dap_talk.specs.declared.command.DapCommand.{DapCommand}
 use Rattle.dap_talk.specs.declared.command.DapCommand.TheVariants as command
 use Rattle.dap_messages.specs.declared.message.EditorOutcome.{EditorOutcome}
 use Rattle.dap_messages.specs.declared.message.EditorOutcome.TheVariants.{Success, Refused}
-use Rattle.dap_editor.specs.declared.request.EditorCommand.TheVariants as editor
-use Rattle.dap_editor.specs.declared.request.EvaluateContext.TheVariants.{Repl, Watch}
-use Rattle.dap_editor.specs.declared.request.RequestContent.{RequestContent}
-use Rattle.dap_editor.specs.declared.request.RequestContent.TheVariants as asked
+use Rattle.dap_requests.specs.declared.request.EditorCommand.TheVariants as editor
+use Rattle.dap_requests.specs.declared.request.EvaluateContext.TheVariants.{Repl, Watch}
+use Rattle.dap_requests.specs.declared.request.RequestContent.{RequestContent}
+use Rattle.dap_requests.specs.declared.request.RequestContent.TheVariants as asked
 use Rattle.dap_look.specs.declared.change.SetValue.{SetValue}
 use Rattle.dap_variables.specs.Answers.{value_set}
 use Rattle.dap_history.specs.declared.input.Input.{Input}

@@ -6,7 +6,7 @@ use Rattle.base64.specs.declared.decode.DecodeError.{DecodeError}
 use Rattle.base64.specs.Engines.{standard}
 use Rattle.base64.specs.GeneralPurpose.{IsBytes, IsStrict, decode_of, decoded_of}
 use Rattle.base64.proofs.EngineFacts.{decode_of_iff}
-use Rattle.dap_arguments.specs.Argument.{bytes_of}
+use Rattle.dap_messages.specs.Base64.{bytes_of}
 use Rattle.dap_json.specs.Json.{base64_text}
 
 is_ok : (r : Result (List ℕ) DecodeError) (b : List ℕ) → result_ok r ≡ Some b → r ≡ Ok b

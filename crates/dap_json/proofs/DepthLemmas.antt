@@ -9,8 +9,8 @@ use Rattle.dap_answers.specs.declared.answer.Event.TheVariants as board
 use Rattle.dap_answers.proofs.DepthLemmas.{fits, items_within, body_is_shallow, event_is_shallow}
 use Rattle.lab_shown.specs.declared.shown.CodeLine.{CodeLine}
 use Rattle.lab_shown.specs.declared.shown.StackFrame.{StackFrame}
-use Rattle.dap_file.specs.declared.kind.ImageKind.{ImageKind}
-use Rattle.dap_file.specs.Kinds.{kind_of}
+use Rattle.dap_messages.specs.declared.file_kind.ImageKind.{ImageKind}
+use Rattle.dap_messages.specs.FileKinds.{kind_of}
 use Rattle.dap_answers.specs.declared.answer.Body.{Body}
 use Rattle.dap_answers.specs.declared.answer.Body.TheVariants as board_body
 use Rattle.dap_messages.specs.declared.message.BreakpointNote.{BreakpointNote}

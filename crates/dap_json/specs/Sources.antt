@@ -5,8 +5,8 @@ use Rattle.std.specs.Path.{slash, rsplit_once}
 use Rattle.base_text.specs.Bytes.{Text}
 use Rattle.serde_json.specs.Data.{Data, string}
 use Rattle.lab_shown.specs.declared.shown.StackFrame.{StackFrame}
-use Rattle.dap_file.specs.declared.kind.ImageKind.{ImageKind}
-use Rattle.dap_file.specs.Kinds.{kind_of}
+use Rattle.dap_messages.specs.declared.file_kind.ImageKind.{ImageKind}
+use Rattle.dap_messages.specs.FileKinds.{kind_of}
 use Rattle.dap_answers.specs.Json.{object_of, whole_number, list_of, reference}
 use Rattle.dap_messages.specs.declared.message.Numbering.{Numbering}
 use Rattle.dap_messages.specs.Numbering.{line_told, column_told}

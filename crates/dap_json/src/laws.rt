@@ -6,7 +6,7 @@ ghost use Rattle.serde_json.specs.Data.{depth};
 ghost use Rattle.serde_json.specs.Written.{has_float};
 ghost use Rattle.dap_messages.specs.declared.message.Message.{Message};
 ghost use Rattle.dap_messages.specs.declared.message.Numbering.{Numbering};
-ghost use Rattle.dap_arguments.specs.Argument.{bytes_of};
+ghost use Rattle.dap_messages.specs.Base64.{bytes_of};
 ghost use Rattle.dap_json.specs.Json.{base64_text, message_json};
 
 /// No number in a message is a float, so that the message has one compact text.

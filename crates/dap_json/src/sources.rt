@@ -13,7 +13,7 @@ use dap_answers::answer::Body;
 use dap_answers::bodies::body_json;
 use dap_answers::json::reference;
 use dap_answers::object::Object;
-use dap_file::kind::image_kind;
+use dap_messages::file_kind::image_kind;
 use dap_messages::message::Numbering;
 use lab_shown::shown::StackFrame;
 use serde_json::Value;

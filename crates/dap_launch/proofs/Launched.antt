@@ -2,8 +2,8 @@
 use Rattle.std.proofs.Common.{◌≡◌, ℕ, List, Bool, true, false, Some, Result, Ok, Err, refl, ap, subst, ◌∙◌}
 use Rattle.i80_exec.specs.State.{MachineState}
 use Rattle.lab_core.specs.Board.{Board}
-use Rattle.dap_editor.specs.declared.request.Launch.{Launch}
-use Rattle.dap_file.specs.declared.kind.ImageKind.{ImageKind}
+use Rattle.dap_requests.specs.declared.request.Launch.{Launch}
+use Rattle.dap_messages.specs.declared.file_kind.ImageKind.{ImageKind}
 use Rattle.dap_image.specs.declared.fault.ImageFault.{ImageFault}
 use Rattle.dap_image.specs.Images.{Cells}
 use Rattle.dap_image.specs.Law.{AreInRange, TakesText, HasBytes}

@@ -1,7 +1,7 @@
 -- The text of a program's file.
 use Rattle.std.specs.Prelude.{Option, Some, None, Result, Ok, Err, codes}
 use Rattle.base_text.specs.Bytes.{Text}
-use Rattle.dap_editor.specs.declared.request.Launch.{Launch}
+use Rattle.dap_requests.specs.declared.request.Launch.{Launch}
 use Rattle.dap_image.specs.declared.fault.ImageFault.{ImageFault}
 use Rattle.dap_image.specs.declared.text.ImagePlace.{ImagePlace}
 use Rattle.dap_image.specs.Faults.{fault_message}

@@ -4,7 +4,7 @@ use Rattle.base_text.specs.Bytes.{Text}
 use Rattle.i80_exec.specs.State.{MachineState, with_board, power_on}
 use Rattle.lab_core.specs.Board.{Board}
 use Rattle.dap_board.specs.Commands.{board_with}
-use Rattle.dap_editor.specs.declared.request.Launch.{Launch}
+use Rattle.dap_requests.specs.declared.request.Launch.{Launch}
 use Rattle.dap_image.specs.Images.{Cells}
 use Rattle.dap_image.specs.Law.{HasBytes}
 use Rattle.dap_program.specs.Loading.{load_result}

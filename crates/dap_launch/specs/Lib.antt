@@ -2,5 +2,4 @@ pub mod Files
 pub mod Lives
 pub mod Programs
 pub mod Points
-pub mod Paths
 pub mod Laws

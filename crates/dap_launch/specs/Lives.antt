@@ -2,9 +2,9 @@
 use Rattle.std.specs.Prelude.{Bool, true, false, not, ◌&&◌, ◌||◌, Option, Some, None, option_and_then}
 use Rattle.lab_core.specs.declared.answer.End.{End}
 use Rattle.dap_messages.specs.declared.message.UndefinedOpcode.{UndefinedOpcode}
-use Rattle.dap_editor.specs.declared.request.ExceptionFilters.{ExceptionFilters}
-use Rattle.dap_editor.specs.declared.request.Launch.{Launch}
-use Rattle.dap_editor.specs.Argument.{no_filters}
+use Rattle.dap_requests.specs.declared.request.ExceptionFilters.{ExceptionFilters}
+use Rattle.dap_requests.specs.declared.request.Launch.{Launch}
+use Rattle.dap_requests.specs.Filters.{no_filters}
 use Rattle.dap_program.specs.declared.end.EndPolicy.{EndPolicy}
 use Rattle.dap_program.specs.declared.end.EndPolicy.TheVariants.{Exit, Hold}
 use Rattle.dap_program.specs.Ends.{exception_at, policy_at}

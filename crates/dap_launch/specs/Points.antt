@@ -5,9 +5,9 @@ use Rattle.std.specs.Str.{bytes_eq}
 use Rattle.lab_core.specs.Board.{Board}
 use Rattle.dap_messages.specs.declared.message.BreakpointNote.TheVariants.{NotLaunched, OtherProgram}
 use Rattle.dap_messages.specs.declared.message.PlacedBreakpoint.{PlacedBreakpoint}
-use Rattle.dap_editor.specs.declared.request.FunctionBreakpoint.{FunctionBreakpoint}
-use Rattle.dap_editor.specs.declared.request.DataBreakpoint.{DataBreakpoint}
-use Rattle.dap_editor.specs.declared.request.InstructionBreakpoint.{InstructionBreakpoint}
+use Rattle.dap_requests.specs.declared.request.FunctionBreakpoint.{FunctionBreakpoint}
+use Rattle.dap_requests.specs.declared.request.DataBreakpoint.{DataBreakpoint}
+use Rattle.dap_requests.specs.declared.request.InstructionBreakpoint.{InstructionBreakpoint}
 use Rattle.dap_points.specs.declared.points.SourceLines.{SourceLines}
 use Rattle.dap_points.specs.Points.{WantedBreakpointsState}
 use Rattle.dap_points.specs.Placed.{other_points, unlaunched_labels, unlaunched_data}

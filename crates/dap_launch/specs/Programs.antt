@@ -10,11 +10,11 @@ use Rattle.lab_core.specs.Board.{Board}
 use Rattle.lab_core.specs.Labs.{LabState, RepresentsBoard}
 use Rattle.dap_messages.specs.declared.message.EditorStop.TheVariants.{Entry}
 use Rattle.dap_messages.specs.declared.message.PlacedBreakpoint.{PlacedBreakpoint}
-use Rattle.dap_editor.specs.declared.request.Launch.{Launch as LaunchOf}
-use Rattle.dap_editor.specs.declared.request.LineBreakpoint.{LineBreakpoint}
-use Rattle.dap_editor.specs.declared.request.FunctionBreakpoint.{FunctionBreakpoint}
-use Rattle.dap_editor.specs.declared.request.DataBreakpoint.{DataBreakpoint}
-use Rattle.dap_editor.specs.declared.request.InstructionBreakpoint.{InstructionBreakpoint}
+use Rattle.dap_requests.specs.declared.request.Launch.{Launch as LaunchOf}
+use Rattle.dap_requests.specs.declared.request.LineBreakpoint.{LineBreakpoint}
+use Rattle.dap_requests.specs.declared.request.FunctionBreakpoint.{FunctionBreakpoint}
+use Rattle.dap_requests.specs.declared.request.DataBreakpoint.{DataBreakpoint}
+use Rattle.dap_requests.specs.declared.request.InstructionBreakpoint.{InstructionBreakpoint}
 use Rattle.dap_points.specs.Points.{WantedBreakpointsState, number_of, lines_at}
 use Rattle.dap_program.specs.declared.messages.FollowUp.{FollowUp}
 use Rattle.dap_program.specs.declared.messages.FollowUp.TheVariants.{Nothing, Continued, Stopped}

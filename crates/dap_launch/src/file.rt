@@ -5,10 +5,10 @@ ghost use Rattle.dap_launch.specs.Files as files;
 
 use base_text::sequence::Bytes;
 use base_text::text::Text;
-use dap_editor::request::Launch;
-use dap_file::kind::ImageKind;
 use dap_image::fault::{ImageFault, fault_message};
 use dap_image::text::{ImagePlace, image_text};
+use dap_messages::file_kind::ImageKind;
+use dap_requests::request::Launch;
 use std::alloc::{AllocError, Global};
 
 /// What is found at the path of a launch.

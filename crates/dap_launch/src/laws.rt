@@ -1,8 +1,8 @@
 //! Theorems about the definitions.
 ghost use Rattle.std.specs.Prelude.{◌≡◌, ℕ, List, Some, Ok};
 ghost use Rattle.base_text.specs.Bytes.{Text};
-ghost use Rattle.dap_editor.specs.declared.request.Launch.{Launch};
-ghost use Rattle.dap_file.specs.declared.kind.ImageKind.{ImageKind};
+ghost use Rattle.dap_requests.specs.declared.request.Launch.{Launch};
+ghost use Rattle.dap_messages.specs.declared.file_kind.ImageKind.{ImageKind};
 ghost use Rattle.dap_image.specs.Images.{Cells};
 ghost use Rattle.dap_image.specs.Law.{AreInRange};
 ghost use Rattle.dap_image.specs.Texts.{program_for};

@@ -5,9 +5,9 @@ ghost use Rattle.dap_launch.specs.Lives.{is_live, held_for, held_ends, ended_pro
 ghost use Rattle.dap_launch.specs.Lives.{exception_of};
 
 use crate::program::{Phase, Program};
-use dap_editor::request::{ExceptionFilters, Launch};
 use dap_messages::message::UndefinedOpcode;
 use dap_program::end::{EndPolicy, exception_at, policy_at};
+use dap_requests::request::{ExceptionFilters, Launch};
 use lab_core::answer::End;
 
 /// Of an editor that set no filter.

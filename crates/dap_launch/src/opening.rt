@@ -3,10 +3,10 @@ ghost use Rattle.std.specs.Prelude.{◌≡◌};
 ghost use Rattle.dap_launch.specs.Programs.{begun_follow};
 
 use crate::program::pauses;
-use dap_editor::request::Launch;
 use dap_messages::message::EditorStop;
 use dap_program::messages::{FollowUp, RequestId};
 use dap_program::opening::LoadReason;
+use dap_requests::request::Launch;
 
 /// A launch or a restart, and the request that its response answers.
 #[derive(Drop)]

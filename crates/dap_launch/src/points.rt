@@ -14,9 +14,6 @@ use base_text::sequence::Sequence;
 use base_text::text::Text;
 use dap_data::instructions::instruction_points;
 use dap_data::points::data_points;
-use dap_editor::request::{
-    DataBreakpoint, FunctionBreakpoint, InstructionBreakpoint, LineBreakpoint,
-};
 use dap_messages::message::{BreakpointNote, PlacedBreakpoint};
 use dap_points::changes::changed_points;
 use dap_points::placed::{
@@ -24,6 +21,9 @@ use dap_points::placed::{
 };
 use dap_points::points::{SourceLines, WantedBreakpoints};
 use dap_program::breakpoints::{labels_on, lines_on};
+use dap_requests::request::{
+    DataBreakpoint, FunctionBreakpoint, InstructionBreakpoint, LineBreakpoint,
+};
 use lab_core::lab::Lab;
 use std::alloc::{AllocError, Global};
 

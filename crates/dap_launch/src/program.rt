@@ -12,15 +12,15 @@ use base_text::latin::to_bytes;
 use base_text::sequence::Sequence;
 use dap_data::instructions::push_breaks;
 use dap_data::points::push_watches;
-use dap_editor::request::{
-    DataBreakpoint, FunctionBreakpoint, InstructionBreakpoint, Launch, LineBreakpoint,
-};
 use dap_lines::conditions::conditional_points;
 use dap_messages::message::PlacedBreakpoint;
 use dap_points::board::board_lines;
 use dap_points::points::WantedBreakpoints;
 use dap_program::breakpoints::{arm, labels_on, lines_on};
 use dap_program::change::{begin, begin_stopped, change};
+use dap_requests::request::{
+    DataBreakpoint, FunctionBreakpoint, InstructionBreakpoint, Launch, LineBreakpoint,
+};
 use dap_slice::conditions::ConditionalBreakpoints;
 use lab_core::answer::End;
 use lab_core::event::Event;

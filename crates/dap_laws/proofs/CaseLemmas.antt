@@ -3,7 +3,7 @@ use Rattle.std.proofs.Common.{◌≡◌, ◌≤◌, ℕ, [], Bool, true, false, 
 use Rattle.std.proofs.Common.{if◌then◌else◌, codes, refl, subst, arith}
 use Rattle.base_text.specs.Bytes.{Text}
 use Rattle.lab_core.specs.declared.fault.EventFault.TheVariants.{NotStopped}
-use Rattle.dap_editor.specs.declared.request.RequestContent.{RequestContent}
+use Rattle.dap_requests.specs.declared.request.RequestContent.{RequestContent}
 use Rattle.dap_search.specs.declared.goal.Goal.{Goal}
 use Rattle.dap_launch.specs.declared.file.FileText.{FileText}
 use Rattle.dap_program.specs.Refusals.{board_refusal}

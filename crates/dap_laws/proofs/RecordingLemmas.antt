@@ -5,7 +5,7 @@ use Rattle.std.specs.Prelude.{option_and_then}
 use Rattle.lab_core.specs.declared.answer.SliceOutcome.{SliceOutcome}
 use Rattle.lab_core.specs.Slices.{after_steps}
 use Rattle.dap_slice.proofs.SliceLemmas.{end_within}
-use Rattle.dap_editor.specs.declared.request.RequestContent.{RequestContent}
+use Rattle.dap_requests.specs.declared.request.RequestContent.{RequestContent}
 use Rattle.dap_history.specs.declared.input.Input.{Input as RunInput}
 use Rattle.dap_history.specs.Logs.{up_to}
 use Rattle.dap_history.specs.Runs.{after_input, board_at}

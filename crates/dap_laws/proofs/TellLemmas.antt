@@ -13,7 +13,7 @@ use Rattle.dap_slice.proofs.SliceLemmas.{end_within}
 use Rattle.dap_messages.specs.declared.message.EditorEvent.TheVariants as event
 use Rattle.dap_messages.specs.declared.message.Message.{Message}
 use Rattle.dap_messages.specs.declared.message.Message.TheVariants as message
-use Rattle.dap_editor.specs.declared.request.RequestContent.{RequestContent}
+use Rattle.dap_requests.specs.declared.request.RequestContent.{RequestContent}
 use Rattle.dap_search.specs.declared.goal.Goal.{Goal}
 use Rattle.dap_search.specs.declared.goal.Goal.TheVariants.{Statement, Breakpoint, Count}
 use Rattle.dap_search.specs.Goals.{is_goal}

@@ -3,11 +3,11 @@ ghost use Rattle.std.specs.Prelude.{◌≡◌, ◌-◌, ◌∷◌, ℕ, List, Bo
 ghost use Rattle.lab_core.specs.declared.answer.End.{End};
 ghost use Rattle.base_text.specs.Bytes.{Text};
 ghost use Rattle.dap_messages.specs.declared.message.ValueFormat.{ValueFormat};
-ghost use Rattle.dap_editor.specs.declared.request.EditorCommand.TheVariants as editor;
-ghost use Rattle.dap_editor.specs.declared.request.EvaluateContext.TheVariants as context;
-ghost use Rattle.dap_editor.specs.declared.request.EditorRequest.{EditorRequest};
-ghost use Rattle.dap_editor.specs.declared.request.RequestContent.TheVariants as asked;
-ghost use Rattle.dap_editor.specs.declared.request.RequestContent.{RequestContent};
+ghost use Rattle.dap_requests.specs.declared.request.EditorCommand.TheVariants as editor;
+ghost use Rattle.dap_requests.specs.declared.request.EvaluateContext.TheVariants as context;
+ghost use Rattle.dap_requests.specs.declared.request.EditorRequest.{EditorRequest};
+ghost use Rattle.dap_requests.specs.declared.request.RequestContent.TheVariants as asked;
+ghost use Rattle.dap_requests.specs.declared.request.RequestContent.{RequestContent};
 ghost use Rattle.dap_slice.specs.declared.conditions.ConditionalBreakpoint.{ConditionalBreakpoint};
 ghost use Rattle.dap_slice.specs.Tallies.{is_any_full};
 ghost use Rattle.dap_search.specs.declared.goal.Goal.{Goal};

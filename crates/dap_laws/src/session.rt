@@ -5,11 +5,11 @@ ghost use Rattle.lab_core.specs.declared.answer.SliceOutcome.TheVariants as outc
 ghost use Rattle.dap_session.specs.Slices.{slice_end_in, after_slice_in};
 ghost use Rattle.base_text.specs.Bytes.{Text};
 ghost use Rattle.dap_messages.specs.declared.message.ValueFormat.{ValueFormat};
-ghost use Rattle.dap_editor.specs.declared.request.RequestContent.TheVariants as asked;
-ghost use Rattle.dap_editor.specs.declared.request.EditorCommand.TheVariants as editor;
-ghost use Rattle.dap_editor.specs.declared.request.EditorRequest.{EditorRequest};
-ghost use Rattle.dap_editor.specs.declared.request.RequestContent.{RequestContent};
-ghost use Rattle.dap_editor.specs.declared.request.EvaluateContext.TheVariants as context;
+ghost use Rattle.dap_requests.specs.declared.request.RequestContent.TheVariants as asked;
+ghost use Rattle.dap_requests.specs.declared.request.EditorCommand.TheVariants as editor;
+ghost use Rattle.dap_requests.specs.declared.request.EditorRequest.{EditorRequest};
+ghost use Rattle.dap_requests.specs.declared.request.RequestContent.{RequestContent};
+ghost use Rattle.dap_requests.specs.declared.request.EvaluateContext.TheVariants as context;
 ghost use Rattle.dap_program.specs.Messages.{response, as_messages};
 ghost use Rattle.dap_launch.specs.declared.file.FileText.{FileText};
 ghost use Rattle.dap_session.specs.States.{SessionState, session_before_requests, wants_slice};

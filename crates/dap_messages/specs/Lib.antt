@@ -1,1 +1,3 @@
+pub mod Base64
+pub mod FileKinds
 pub mod Numbering

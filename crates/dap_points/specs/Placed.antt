@@ -2,10 +2,10 @@
 -- Protocol, "Breakpoint").
 use Rattle.std.specs.Prelude.{ℕ, ◌+◌, ◌*◌, ◌==◌, List, [], ◌∷◌, Bool, true, false, if◌then◌else◌}
 use Rattle.std.specs.Prelude.{nat_lt, Option, Some, None}
-use Rattle.dap_editor.specs.declared.request.DataBreakpoint.{DataBreakpoint}
-use Rattle.dap_editor.specs.declared.request.LineBreakpoint.{LineBreakpoint}
-use Rattle.dap_editor.specs.declared.request.FunctionBreakpoint.{FunctionBreakpoint}
-use Rattle.dap_editor.specs.declared.request.InstructionBreakpoint.{InstructionBreakpoint}
+use Rattle.dap_requests.specs.declared.request.DataBreakpoint.{DataBreakpoint}
+use Rattle.dap_requests.specs.declared.request.LineBreakpoint.{LineBreakpoint}
+use Rattle.dap_requests.specs.declared.request.FunctionBreakpoint.{FunctionBreakpoint}
+use Rattle.dap_requests.specs.declared.request.InstructionBreakpoint.{InstructionBreakpoint}
 use Rattle.dap_messages.specs.declared.message.BreakpointNote.{BreakpointNote}
 use Rattle.dap_messages.specs.declared.message.BreakpointNote.TheVariants as note
 use Rattle.dap_messages.specs.declared.message.BreakpointOptions.{BreakpointOptions}

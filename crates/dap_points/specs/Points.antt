@@ -4,10 +4,10 @@ use Rattle.std.specs.Prelude.{true, Option, Some, None}
 use Rattle.std.specs.List.{position}
 use Rattle.std.specs.Str.{bytes_eq}
 use Rattle.base_text.specs.Bytes.{Text}
-use Rattle.dap_editor.specs.declared.request.LineBreakpoint.{LineBreakpoint}
-use Rattle.dap_editor.specs.declared.request.FunctionBreakpoint.{FunctionBreakpoint}
-use Rattle.dap_editor.specs.declared.request.DataBreakpoint.{DataBreakpoint}
-use Rattle.dap_editor.specs.declared.request.InstructionBreakpoint.{InstructionBreakpoint}
+use Rattle.dap_requests.specs.declared.request.LineBreakpoint.{LineBreakpoint}
+use Rattle.dap_requests.specs.declared.request.FunctionBreakpoint.{FunctionBreakpoint}
+use Rattle.dap_requests.specs.declared.request.DataBreakpoint.{DataBreakpoint}
+use Rattle.dap_requests.specs.declared.request.InstructionBreakpoint.{InstructionBreakpoint}
 use Rattle.dap_points.specs.declared.points.SourceLines.{SourceLines}
 
 -- the view of a value of this type

@@ -11,10 +11,10 @@ ghost use Rattle.dap_points.specs.Placed.{unlaunched_datum, unlaunched_data};
 ghost use Rattle.dap_points.specs.Placed.{unlaunched_instruction, unlaunched_instructions};
 
 use base_text::sequence::Sequence;
-use dap_editor::request::{
+use dap_messages::message::{BreakpointNote, BreakpointOptions, PlacedBreakpoint};
+use dap_requests::request::{
     DataBreakpoint, FunctionBreakpoint, InstructionBreakpoint, LineBreakpoint,
 };
-use dap_messages::message::{BreakpointNote, BreakpointOptions, PlacedBreakpoint};
 use std::alloc::{AllocError, Global};
 
 /// A breakpoint on a line of the program, and the first line with code at or below it, if there is one.

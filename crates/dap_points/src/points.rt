@@ -4,7 +4,7 @@ ghost use Rattle.dap_points.specs.Points.{no_points, place_of, number_of, has_pl
 
 use base_text::sequence::Sequence;
 use base_text::text::Text;
-use dap_editor::request::{
+use dap_requests::request::{
     DataBreakpoint, FunctionBreakpoint, InstructionBreakpoint, LineBreakpoint,
 };
 use std::alloc::{AllocError, Global};

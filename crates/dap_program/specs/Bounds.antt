@@ -2,11 +2,11 @@
 use Rattle.std.specs.Prelude.{ℕ, nat_le, length, Bool, true, false, ◌&&◌}
 use Rattle.dap_talk.specs.declared.command.DapCommand.{DapCommand}
 use Rattle.dap_talk.specs.declared.command.DapCommand.TheVariants as command
-use Rattle.dap_editor.specs.declared.request.RequestContent.{RequestContent}
-use Rattle.dap_editor.specs.declared.request.RequestContent.TheVariants as asked
-use Rattle.dap_editor.specs.declared.request.EditorCommand.TheVariants as editor
-use Rattle.dap_arguments.specs.declared.offset.SignedOffset.{SignedOffset}
-use Rattle.dap_arguments.specs.declared.offset.SignedOffset.TheVariants.{Forward, Back}
+use Rattle.dap_requests.specs.declared.request.RequestContent.{RequestContent}
+use Rattle.dap_requests.specs.declared.request.RequestContent.TheVariants as asked
+use Rattle.dap_requests.specs.declared.request.EditorCommand.TheVariants as editor
+use Rattle.dap_requests.specs.declared.offset.SignedOffset.{SignedOffset}
+use Rattle.dap_requests.specs.declared.offset.SignedOffset.TheVariants.{Forward, Back}
 
 -- a request that may come before `initialize`
 abbrev pub opens : RequestContent → Bool

@@ -4,8 +4,8 @@ use Rattle.base_text.specs.Bytes.{Text}
 use Rattle.lab_core.specs.declared.event.Event.TheVariants.{SetBreakpoints}
 use Rattle.lab_core.specs.Board.{Board}
 use Rattle.dap_messages.specs.declared.message.PlacedBreakpoint.{PlacedBreakpoint}
-use Rattle.dap_editor.specs.declared.request.LineBreakpoint.{LineBreakpoint}
-use Rattle.dap_editor.specs.declared.request.FunctionBreakpoint.{FunctionBreakpoint}
+use Rattle.dap_requests.specs.declared.request.LineBreakpoint.{LineBreakpoint}
+use Rattle.dap_requests.specs.declared.request.FunctionBreakpoint.{FunctionBreakpoint}
 use Rattle.dap_inspect.specs.Labels.{line_of_label}
 use Rattle.dap_points.specs.declared.placed.FoundLabel.{FoundLabel}
 use Rattle.dap_points.specs.Placed.{line_points, label_points}

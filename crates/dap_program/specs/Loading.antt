@@ -10,7 +10,7 @@ use Rattle.lab_core.specs.Board.{Board, opening}
 use Rattle.lab_core.specs.Events.{EventResult, result_of}
 use Rattle.lab_core.specs.Labs.{RepresentsBoard}
 use Rattle.dap_board.specs.Commands.{board_with}
-use Rattle.dap_editor.specs.declared.request.Launch.{Launch}
+use Rattle.dap_requests.specs.declared.request.Launch.{Launch}
 use Rattle.dap_program.specs.declared.load.Loaded.{Loaded}
 use Rattle.dap_program.specs.declared.load.LoadFault.{LoadFault}
 use Rattle.dap_program.specs.declared.load.LoadFault.TheVariants as fault

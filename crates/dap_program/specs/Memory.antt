@@ -2,8 +2,8 @@
 use Rattle.std.specs.Prelude.{ℕ, ℤ, pos, ◌+ℤ◌, ◌-ℤ◌, ◌+◌, ◌-◌, ◌%◌, nat_le, Option, Some, None}
 use Rattle.std.specs.Prelude.{if◌then◌else◌}
 use Rattle.i80_exec.specs.State.{modulo_65536}
-use Rattle.dap_arguments.specs.declared.offset.SignedOffset.{SignedOffset}
-use Rattle.dap_arguments.specs.declared.offset.SignedOffset.TheVariants.{Forward, Back}
+use Rattle.dap_requests.specs.declared.offset.SignedOffset.{SignedOffset}
+use Rattle.dap_requests.specs.declared.offset.SignedOffset.TheVariants.{Forward, Back}
 
 -- the address at this distance from another, if there is one
 abbrev pub address_at : ℕ → SignedOffset → Option ℕ

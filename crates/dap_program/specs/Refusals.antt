@@ -5,8 +5,8 @@ use Rattle.asm_syntax.specs.Faults.{fault_name}
 use Rattle.asm_syntax.specs.declared.fault.FaultKind.{FaultKind}
 use Rattle.lab_core.specs.declared.fault.EventFault.{EventFault}
 use Rattle.lab_core.specs.declared.fault.EventFault.TheVariants as fault
-use Rattle.dap_editor.specs.declared.request.RequestFault.{RequestFault}
-use Rattle.dap_editor.specs.declared.request.RequestFault.TheVariants as request
+use Rattle.dap_requests.specs.declared.request.RequestFault.{RequestFault}
+use Rattle.dap_requests.specs.declared.request.RequestFault.TheVariants as request
 use Rattle.dap_inspect.specs.Words.{told_at}
 
 -- what a board refuses

@@ -32,7 +32,7 @@ use Rattle.dap_slice.specs.Logs.{logs_before}
 use Rattle.dap_slice.specs.Counts.{points_after}
 use Rattle.dap_slice.specs.SliceEnds.{slice_end_within, change_after, ids_after}
 use Rattle.dap_points.specs.Kinds.{kind_of}
-use Rattle.dap_editor.specs.declared.request.ExceptionFilters.{ExceptionFilters}
+use Rattle.dap_requests.specs.declared.request.ExceptionFilters.{ExceptionFilters}
 use Rattle.dap_program.specs.declared.slice.Slice.{Slice}
 use Rattle.dap_program.specs.declared.end.EndPolicy.{EndPolicy}
 use Rattle.dap_program.specs.declared.end.EndPolicy.TheVariants.{Exit, Hold}

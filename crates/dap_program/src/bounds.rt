@@ -4,8 +4,8 @@ ghost use Rattle.dap_board.specs.Commands.{IsPerformable};
 ghost use Rattle.dap_program.specs.Bounds as bounds;
 ghost use Rattle.dap_program.specs.Bounds.{opens, is_bounded};
 
-use dap_arguments::offset::SignedOffset;
-use dap_editor::request::{EditorCommand, RequestContent};
+use dap_requests::offset::SignedOffset;
+use dap_requests::request::{EditorCommand, RequestContent};
 use dap_talk::command::DapCommand;
 
 /// The most breakpoints of a request.

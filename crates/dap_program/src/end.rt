@@ -5,8 +5,8 @@ ghost use Rattle.lab_core.specs.Labs.{RepresentsBoard};
 ghost use Rattle.dap_program.specs.Ends as ends;
 ghost use Rattle.dap_program.specs.Ends.{exit_code, exception_at, stop_at, left_at_end, held_at_end};
 
-use dap_editor::request::ExceptionFilters;
 use dap_messages::message::{EditorStop, UndefinedOpcode};
+use dap_requests::request::ExceptionFilters;
 use lab_core::answer::{End, SliceOutcome};
 use lab_core::lab::Lab;
 

@@ -7,7 +7,7 @@ ghost use Rattle.dap_program.specs.Loading.{board_to_load_on, start_of, fault_of
 
 use crate::change::change_surely;
 use base_text::text::Text;
-use dap_editor::request::Launch;
+use dap_requests::request::Launch;
 use i80_base::board::Board;
 use lab_core::answer::Answer;
 use lab_core::event::Event;

@@ -2,7 +2,7 @@
 ghost use Rattle.std.specs.Prelude.{◌≡◌, ◌≤◌, ◌+◌, ◌-◌, length, take};
 ghost use Rattle.dap_program.specs.Memory.{address_at, far_address, wrapped_at};
 
-use dap_arguments::offset::SignedOffset;
+use dap_requests::offset::SignedOffset;
 
 /// The number of addresses.
 const ADDRESSES: usize = 65_536;

@@ -5,8 +5,8 @@ ghost use Rattle.dap_program.specs.Messages.{event_if, change_events};
 
 use base_text::sequence::Sequence;
 use base_text::text::Text;
-use dap_editor::request::SupportedEvents;
 use dap_messages::message::{EditorEvent, EditorOutcome, EditorResponse, EditorStop, Message};
+use dap_requests::request::SupportedEvents;
 use std::alloc::{AllocError, Global};
 use std::marker::Model;
 

@@ -7,10 +7,10 @@ ghost use Rattle.dap_program.specs.Openings.{accepted_outcome, changed_events, f
 use crate::messages::{FollowUp, RequestId};
 use base_text::sequence::Sequence;
 use dap_answers::answer::Body;
-use dap_editor::request::SupportedEvents;
 use dap_messages::message::{
     EditorBody, EditorEvent, EditorOutcome, EditorResponse, Message, PlacedBreakpoint,
 };
+use dap_requests::request::SupportedEvents;
 use std::alloc::{AllocError, Global};
 
 /// Why a program is loaded.

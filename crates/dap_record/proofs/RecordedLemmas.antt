@@ -12,14 +12,14 @@ use Rattle.dap_talk.specs.declared.command.DapCommand.{DapCommand}
 use Rattle.dap_talk.specs.declared.command.DapCommand.TheVariants as command
 use Rattle.dap_board.specs.Bodies.{body_of}
 use Rattle.dap_board.specs.Commands.{with_body, first_line, command_result}
-use Rattle.dap_editor.specs.declared.request.VariablesCommand.TheVariants as variables
+use Rattle.dap_requests.specs.declared.request.VariablesCommand.TheVariants as variables
 use Rattle.dap_messages.specs.declared.message.Message.{Message}
 use Rattle.dap_messages.specs.declared.message.UndefinedOpcode.{UndefinedOpcode}
-use Rattle.dap_editor.specs.declared.request.EditorCommand.{EditorCommand}
-use Rattle.dap_editor.specs.declared.request.EditorCommand.TheVariants as editor
-use Rattle.dap_editor.specs.declared.request.EvaluateContext.TheVariants as context
-use Rattle.dap_editor.specs.declared.request.RequestContent.{RequestContent}
-use Rattle.dap_editor.specs.declared.request.RequestContent.TheVariants as asked
+use Rattle.dap_requests.specs.declared.request.EditorCommand.{EditorCommand}
+use Rattle.dap_requests.specs.declared.request.EditorCommand.TheVariants as editor
+use Rattle.dap_requests.specs.declared.request.EvaluateContext.TheVariants as context
+use Rattle.dap_requests.specs.declared.request.RequestContent.{RequestContent}
+use Rattle.dap_requests.specs.declared.request.RequestContent.TheVariants as asked
 use Rattle.dap_search.specs.declared.goal.Goal.{Goal}
 use Rattle.dap_launch.specs.declared.file.FileText.{FileText}
 use Rattle.dap_launch.specs.Lives.{exception_of}

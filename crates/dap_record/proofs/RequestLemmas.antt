@@ -11,9 +11,9 @@ use Rattle.i80_exec.specs.declared.registers.Registers.{Registers}
 use Rattle.dap_messages.specs.declared.message.EditorOutcome.{EditorOutcome}
 use Rattle.dap_messages.specs.declared.message.EditorOutcome.TheVariants.{Success, Refused}
 use Rattle.dap_messages.specs.declared.message.Message.{Message}
-use Rattle.dap_editor.specs.declared.request.EditorCommand.TheVariants as editor
-use Rattle.dap_editor.specs.declared.request.RequestContent.{RequestContent}
-use Rattle.dap_editor.specs.declared.request.RequestContent.TheVariants as asked
+use Rattle.dap_requests.specs.declared.request.EditorCommand.TheVariants as editor
+use Rattle.dap_requests.specs.declared.request.RequestContent.{RequestContent}
+use Rattle.dap_requests.specs.declared.request.RequestContent.TheVariants as asked
 use Rattle.lab_core.specs.Board.{Board}
 use Rattle.dap_search.specs.declared.goal.Goal.{Goal}
 use Rattle.dap_history.specs.declared.input.Input.{Input}

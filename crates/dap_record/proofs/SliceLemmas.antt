@@ -14,7 +14,7 @@ use Rattle.lab_core.specs.Board.{Board}
 use Rattle.lab_core.specs.Slices.{after_steps, left_by}
 use Rattle.dap_session.specs.Slices.{slice_end_in}
 use Rattle.dap_slice.proofs.SliceLemmas.{end_within}
-use Rattle.dap_editor.specs.declared.request.ExceptionFilters.{ExceptionFilters}
+use Rattle.dap_requests.specs.declared.request.ExceptionFilters.{ExceptionFilters}
 use Rattle.dap_messages.specs.declared.message.Message.{Message}
 use Rattle.dap_program.specs.declared.end.EndPolicy.{EndPolicy}
 use Rattle.dap_program.specs.declared.end.EndPolicy.TheVariants.{Exit, Hold}

@@ -13,10 +13,10 @@ use Rattle.dap_messages.specs.declared.message.EditorEvent.{EditorEvent}
 use Rattle.dap_messages.specs.declared.message.EditorEvent.TheVariants as event
 use Rattle.dap_messages.specs.declared.message.EditorStop.{EditorStop}
 use Rattle.dap_messages.specs.declared.message.EditorStop.TheVariants.{Entry, Board as AtBoard}
-use Rattle.dap_editor.specs.declared.request.EvaluateContext.TheVariants.{Repl}
-use Rattle.dap_editor.specs.declared.request.EditorCommand.TheVariants as editor
-use Rattle.dap_editor.specs.declared.request.RequestContent.{RequestContent}
-use Rattle.dap_editor.specs.declared.request.RequestContent.TheVariants as asked
+use Rattle.dap_requests.specs.declared.request.EvaluateContext.TheVariants.{Repl}
+use Rattle.dap_requests.specs.declared.request.EditorCommand.TheVariants as editor
+use Rattle.dap_requests.specs.declared.request.RequestContent.{RequestContent}
+use Rattle.dap_requests.specs.declared.request.RequestContent.TheVariants as asked
 use Rattle.lab_shown.specs.declared.step.Granularity.TheVariants as granularity
 use Rattle.dap_search.specs.declared.goal.Goal.{Goal}
 use Rattle.dap_search.specs.declared.goal.Goal.TheVariants.{Statement, Breakpoint, Count}

@@ -1,7 +1,7 @@
 -- What becomes of a recording by a request that doesn't go back.
 use Rattle.std.specs.Prelude.{◌≡◌, List, ◌++◌, true, Option, option_and_then}
 use Rattle.dap_messages.specs.declared.message.Message.{Message}
-use Rattle.dap_editor.specs.declared.request.RequestContent.{RequestContent}
+use Rattle.dap_requests.specs.declared.request.RequestContent.{RequestContent}
 use Rattle.dap_history.specs.declared.input.Input.{Input}
 use Rattle.dap_history.specs.Runs.{after_input}
 use Rattle.dap_launch.specs.declared.file.FileText.{FileText}

@@ -3,7 +3,7 @@ use Rattle.std.specs.Prelude.{ℕ, ◌+◌, List, [], ◌∷◌, ◌++◌, Bool,
 use Rattle.std.specs.Prelude.{None, nat_lt, option_and_then, if◌then◌else◌}
 use Rattle.std.specs.List.{fold}
 use Rattle.lab_core.specs.Board.{Board}
-use Rattle.dap_editor.specs.declared.request.RequestContent.{RequestContent}
+use Rattle.dap_requests.specs.declared.request.RequestContent.{RequestContent}
 use Rattle.dap_search.specs.declared.goal.Goal.{Goal}
 use Rattle.dap_history.specs.declared.input.Input.{Input}
 use Rattle.dap_history.specs.declared.input.Recorded.{Recorded}

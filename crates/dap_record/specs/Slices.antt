@@ -8,8 +8,8 @@ use Rattle.dap_session.specs.Slices.{slice_end_in}
 use Rattle.dap_messages.specs.declared.message.EditorEvent.TheVariants as event
 use Rattle.dap_messages.specs.declared.message.Message.{Message}
 use Rattle.dap_messages.specs.declared.message.Message.TheVariants as message
-use Rattle.dap_editor.specs.declared.request.EditorRequest.{EditorRequest}
-use Rattle.dap_editor.specs.declared.request.RequestContent.{RequestContent}
+use Rattle.dap_requests.specs.declared.request.EditorRequest.{EditorRequest}
+use Rattle.dap_requests.specs.declared.request.RequestContent.{RequestContent}
 use Rattle.dap_history.specs.declared.input.Recorded.{Recorded}
 use Rattle.dap_search.specs.declared.goal.Goal.{Goal}
 use Rattle.dap_history.specs.Logs.{up_to}

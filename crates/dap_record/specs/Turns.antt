@@ -9,7 +9,7 @@ use Rattle.dap_messages.specs.declared.message.EditorEvent.{EditorEvent}
 use Rattle.dap_messages.specs.declared.message.EditorEvent.TheVariants as event
 use Rattle.dap_messages.specs.declared.message.EditorOutcome.{EditorOutcome}
 use Rattle.dap_messages.specs.declared.message.OutputCategory.TheVariants.{Console}
-use Rattle.dap_editor.specs.declared.request.RequestContent.{RequestContent}
+use Rattle.dap_requests.specs.declared.request.RequestContent.{RequestContent}
 use Rattle.dap_search.specs.declared.goal.Goal.{Goal}
 use Rattle.dap_launch.specs.declared.file.FileText.{FileText}
 use Rattle.dap_program.specs.declared.messages.FollowUp.TheVariants.{Stopped}

@@ -4,7 +4,7 @@ ghost use Rattle.dap_record.specs.Backward as backward;
 ghost use Rattle.dap_record.specs.Backward.{number_from, positive, back_by, back_line, is_digit};
 ghost use Rattle.dap_inputs.specs.Prompt.{behind};
 
-use dap_editor::request::{EditorCommand, EvaluateContext, RequestContent};
+use dap_requests::request::{EditorCommand, EvaluateContext, RequestContent};
 use lab_shown::step::Granularity;
 
 /// How a run is to go back.

@@ -10,10 +10,10 @@ ghost use Rattle.dap_session.specs.Rewinds.{can_go_back};
 
 use crate::recording::RunRecording;
 use base_text::sequence::Bytes;
-use dap_editor::request::{EditorCommand, RequestContent};
 use dap_history::fault::LogFault;
 use dap_history::input::Input;
 use dap_messages::message::{EditorOutcome, Message};
+use dap_requests::request::{EditorCommand, RequestContent};
 use std::alloc::{AllocError, Global};
 
 /// Whether a request loads a program.

@@ -2,7 +2,7 @@
 ghost use Rattle.std.specs.Prelude.{◌≡◌};
 ghost use Rattle.dap_record.specs.MidSearch as searching;
 
-use dap_editor::request::{EditorCommand, EvaluateContext, RequestContent, VariablesCommand};
+use dap_requests::request::{EditorCommand, EvaluateContext, RequestContent, VariablesCommand};
 use dap_talk::command::DapCommand;
 
 /// What a request is while a search goes on.

@@ -1,7 +1,7 @@
 //! The recording after a request that doesn't go back.
 ghost use Rattle.std.specs.Prelude.{◌≡◌, ◌++◌, Option, Some, None, true, nat_lt, if◌then◌else◌, not, ◌&&◌};
 ghost use Rattle.std.specs.Prelude.{◌||◌, IfOk, OnOk};
-ghost use Rattle.dap_editor.specs.declared.request.RequestContent.{RequestContent};
+ghost use Rattle.dap_requests.specs.declared.request.RequestContent.{RequestContent};
 ghost use Rattle.dap_launch.specs.declared.file.FileText.{FileText};
 ghost use Rattle.dap_program.specs.declared.messages.RequestId.{RequestId};
 ghost use Rattle.dap_session.specs.States.{SessionState};

@@ -23,7 +23,7 @@ use Rattle.lab_core.specs.Events.{or_assembly, cell_meaning, as_answer, parts_of
 use Rattle.lab_core.specs.Events.{after_end}
 use Rattle.lab_core.specs.Changes.{after_write}
 use Rattle.lab_core.specs.Slices.{after_steps}
-use Rattle.dap_editor.specs.declared.request.Launch.{Launch}
+use Rattle.dap_requests.specs.declared.request.Launch.{Launch}
 use Rattle.dap_history.specs.declared.input.Input.{Input}
 use Rattle.dap_history.specs.declared.input.Input.TheVariants as input
 use Rattle.dap_history.specs.Runs.{board_of, after_input}

@@ -38,15 +38,15 @@ use Rattle.dap_board.specs.Commands.{step_request}
 use Rattle.dap_messages.specs.declared.message.EditorEvent.TheVariants as told
 use Rattle.dap_messages.specs.declared.message.UndefinedOpcode.{UndefinedOpcode}
 use Rattle.dap_messages.specs.declared.message.ValueFormat.{ValueFormat}
-use Rattle.dap_editor.specs.declared.request.EditorCommand.{EditorCommand}
-use Rattle.dap_editor.specs.declared.request.EditorCommand.TheVariants as editor
-use Rattle.dap_editor.specs.declared.request.EvaluateContext.{EvaluateContext}
-use Rattle.dap_editor.specs.declared.request.EvaluateContext.TheVariants as context
-use Rattle.dap_editor.specs.declared.request.RequestContent.{RequestContent}
-use Rattle.dap_editor.specs.declared.request.RequestContent.TheVariants as asked
-use Rattle.dap_arguments.specs.declared.offset.SignedOffset.{SignedOffset}
+use Rattle.dap_requests.specs.declared.request.EditorCommand.{EditorCommand}
+use Rattle.dap_requests.specs.declared.request.EditorCommand.TheVariants as editor
+use Rattle.dap_requests.specs.declared.request.EvaluateContext.{EvaluateContext}
+use Rattle.dap_requests.specs.declared.request.EvaluateContext.TheVariants as context
+use Rattle.dap_requests.specs.declared.request.RequestContent.{RequestContent}
+use Rattle.dap_requests.specs.declared.request.RequestContent.TheVariants as asked
+use Rattle.dap_requests.specs.declared.offset.SignedOffset.{SignedOffset}
 use Rattle.dap_look.specs.declared.change.SetValue.{SetValue}
-use Rattle.dap_editor.specs.declared.request.VariablesCommand.{VariablesCommand}
+use Rattle.dap_requests.specs.declared.request.VariablesCommand.{VariablesCommand}
 use Rattle.dap_variables.specs.declared.answer.VariablesAnswer.{VariablesAnswer}
 use Rattle.dap_variables.specs.declared.answer.VariablesAnswer.TheVariants.{Outcome, Change}
 use Rattle.dap_variables.specs.Answers.{variables_answer}

@@ -3,11 +3,11 @@ use Rattle.std.proofs.Common.{◌≡◌, refl}
 use Rattle.base_text.specs.Bytes.{Text}
 use Rattle.dap_messages.specs.declared.message.ValueFormat.{ValueFormat}
 use Rattle.dap_messages.specs.declared.message.Numbering.{Numbering}
-use Rattle.dap_editor.specs.declared.request.EditorCommand.{EditorCommand}
-use Rattle.dap_editor.specs.declared.request.EditorCommand.TheVariants as editor
-use Rattle.dap_editor.specs.declared.request.EvaluateContext.{EvaluateContext}
-use Rattle.dap_editor.specs.declared.request.ExceptionFilters.{ExceptionFilters}
-use Rattle.dap_editor.specs.declared.request.SupportedEvents.{SupportedEvents}
+use Rattle.dap_requests.specs.declared.request.EditorCommand.{EditorCommand}
+use Rattle.dap_requests.specs.declared.request.EditorCommand.TheVariants as editor
+use Rattle.dap_requests.specs.declared.request.EvaluateContext.{EvaluateContext}
+use Rattle.dap_requests.specs.declared.request.ExceptionFilters.{ExceptionFilters}
+use Rattle.dap_requests.specs.declared.request.SupportedEvents.{SupportedEvents}
 use Rattle.dap_session.specs.States.{SessionState}
 use Rattle.dap_session.specs.Turns.{Replied}
 use Rattle.dap_session.specs.Requests.{editing, editing_points}

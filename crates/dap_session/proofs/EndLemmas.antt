@@ -13,7 +13,7 @@ use Rattle.dap_session.specs.Slices.{slice_end_in, after_slice_in}
 use Rattle.dap_talk.specs.declared.command.DapCommand.TheVariants as command
 use Rattle.dap_board.specs.Commands.{command_result}
 use Rattle.dap_messages.specs.declared.message.EditorEvent.{EditorEvent}
-use Rattle.dap_editor.specs.declared.request.RequestContent.TheVariants as asked
+use Rattle.dap_requests.specs.declared.request.RequestContent.TheVariants as asked
 use Rattle.dap_program.specs.declared.end.EndPolicy.{EndPolicy}
 use Rattle.dap_program.specs.declared.end.EndPolicy.TheVariants.{Exit, Hold}
 use Rattle.dap_program.specs.declared.messages.FollowUp.TheVariants as follow
@@ -25,7 +25,7 @@ use Rattle.dap_program.specs.Slices.{asks_line}
 use Rattle.dap_program.proofs.SliceLemmas.{told-append}
 use Rattle.dap_launch.specs.declared.program.Program.{Program}
 use Rattle.dap_launch.specs.Lives.{held_for, policy_of, ended_phase, ended_program, end_in, end_of}
-use Rattle.dap_editor.specs.declared.request.ExceptionFilters.{ExceptionFilters}
+use Rattle.dap_requests.specs.declared.request.ExceptionFilters.{ExceptionFilters}
 use Rattle.lab_core.specs.declared.answer.End.TheVariants as end
 use Rattle.dap_session.specs.States.{SessionState, wants_slice}
 use Rattle.dap_session.specs.Requests.{resuming_from, asking_unless, turn}

@@ -33,18 +33,18 @@ use Rattle.dap_board.specs.Commands.{Performed, first_line, command_result, with
 use Rattle.dap_messages.specs.declared.message.EditorStop.TheVariants.{Board as AtBoard}
 use Rattle.dap_messages.specs.declared.message.UndefinedOpcode.{UndefinedOpcode}
 use Rattle.dap_messages.specs.declared.message.ValueFormat.{ValueFormat}
-use Rattle.dap_editor.specs.declared.request.EditorCommand.{EditorCommand}
-use Rattle.dap_editor.specs.declared.request.EditorCommand.TheVariants as editor
-use Rattle.dap_editor.specs.declared.request.EvaluateContext.{EvaluateContext}
-use Rattle.dap_editor.specs.declared.request.EvaluateContext.TheVariants as context
-use Rattle.dap_editor.specs.declared.request.RequestContent.{RequestContent}
-use Rattle.dap_editor.specs.declared.request.RequestContent.TheVariants as asked
-use Rattle.dap_arguments.specs.declared.offset.SignedOffset.{SignedOffset}
+use Rattle.dap_requests.specs.declared.request.EditorCommand.{EditorCommand}
+use Rattle.dap_requests.specs.declared.request.EditorCommand.TheVariants as editor
+use Rattle.dap_requests.specs.declared.request.EvaluateContext.{EvaluateContext}
+use Rattle.dap_requests.specs.declared.request.EvaluateContext.TheVariants as context
+use Rattle.dap_requests.specs.declared.request.RequestContent.{RequestContent}
+use Rattle.dap_requests.specs.declared.request.RequestContent.TheVariants as asked
+use Rattle.dap_requests.specs.declared.offset.SignedOffset.{SignedOffset}
 use Rattle.dap_history.specs.declared.input.Input.{Input}
 use Rattle.dap_history.specs.declared.input.Input.TheVariants as input
 use Rattle.dap_history.specs.Runs.{board_of, after_input}
 use Rattle.dap_look.specs.declared.change.SetValue.{SetValue}
-use Rattle.dap_editor.specs.declared.request.VariablesCommand.{VariablesCommand}
+use Rattle.dap_requests.specs.declared.request.VariablesCommand.{VariablesCommand}
 use Rattle.dap_variables.specs.declared.answer.VariablesAnswer.{VariablesAnswer}
 use Rattle.dap_variables.specs.declared.answer.VariablesAnswer.TheVariants.{Outcome, Change}
 use Rattle.dap_variables.specs.Answers.{change_in, value_set, variables_answer}

@@ -20,11 +20,11 @@ use Rattle.lab_core.specs.Slices.{traffic_of}
 use Rattle.dap_messages.specs.declared.message.EditorEvent.{EditorEvent}
 use Rattle.dap_messages.specs.declared.message.PlacedBreakpoint.{PlacedBreakpoint}
 use Rattle.dap_messages.specs.declared.message.ValueFormat.{ValueFormat}
-use Rattle.dap_editor.specs.declared.request.RequestContent.{RequestContent}
-use Rattle.dap_editor.specs.declared.request.RequestContent.TheVariants as asked
-use Rattle.dap_editor.specs.declared.request.EditorCommand.TheVariants as editor
-use Rattle.dap_editor.specs.declared.request.EvaluateContext.TheVariants as context
-use Rattle.dap_editor.specs.declared.request.Launch.{Launch as LaunchOf}
+use Rattle.dap_requests.specs.declared.request.RequestContent.{RequestContent}
+use Rattle.dap_requests.specs.declared.request.RequestContent.TheVariants as asked
+use Rattle.dap_requests.specs.declared.request.EditorCommand.TheVariants as editor
+use Rattle.dap_requests.specs.declared.request.EvaluateContext.TheVariants as context
+use Rattle.dap_requests.specs.declared.request.Launch.{Launch as LaunchOf}
 use Rattle.dap_program.specs.declared.load.LoadFault.{LoadFault}
 use Rattle.dap_program.specs.declared.load.LoadFault.TheVariants as fault
 use Rattle.dap_program.specs.declared.messages.FollowUp.{FollowUp}
@@ -55,7 +55,7 @@ use Rattle.dap_program.specs.declared.end.EndPolicy.TheVariants.{Exit, Hold}
 use Rattle.dap_launch.specs.Files.{program_text}
 use Rattle.dap_launch.specs.Lives.{held_ends}
 use Rattle.dap_program.specs.Ends.{policy_at}
-use Rattle.dap_editor.specs.declared.request.ExceptionFilters.{ExceptionFilters}
+use Rattle.dap_requests.specs.declared.request.ExceptionFilters.{ExceptionFilters}
 use Rattle.dap_launch.specs.Programs.{program_of}
 use Rattle.dap_launch.specs.Points.{all_changed}
 use Rattle.dap_session.specs.Launches.{started_follow, by_text, loading, loading_as, launching_over}

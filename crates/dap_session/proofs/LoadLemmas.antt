@@ -5,7 +5,7 @@ use Rattle.base_text.specs.Bytes.{Text}
 use Rattle.lab_core.specs.Board.{Board}
 use Rattle.lab_core.specs.Labs.{RepresentsBoard}
 use Rattle.dap_messages.specs.declared.message.Message.{Message}
-use Rattle.dap_editor.specs.declared.request.Launch.{Launch as LaunchOf}
+use Rattle.dap_requests.specs.declared.request.Launch.{Launch as LaunchOf}
 use Rattle.dap_launch.specs.Programs.{program_of}
 use Rattle.dap_program.specs.declared.load.Loaded.{Loaded}
 use Rattle.dap_program.specs.declared.load.LoadFault.{LoadFault}

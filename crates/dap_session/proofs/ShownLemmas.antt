@@ -6,8 +6,8 @@ use Rattle.lab_core.specs.declared.run_state.RunState.TheVariants.{NoRun, Runnin
 use Rattle.lab_core.specs.Board.{Board}
 use Rattle.dap_messages.specs.declared.message.EditorOutcome.{EditorOutcome}
 use Rattle.dap_messages.specs.declared.message.EditorVariable.{EditorVariable}
-use Rattle.dap_editor.specs.declared.request.VariablesCommand.{VariablesCommand}
-use Rattle.dap_editor.specs.declared.request.VariablesCommand.TheVariants as variables
+use Rattle.dap_requests.specs.declared.request.VariablesCommand.{VariablesCommand}
+use Rattle.dap_requests.specs.declared.request.VariablesCommand.TheVariants as variables
 use Rattle.dap_variables.specs.declared.answer.VariablesAnswer.{VariablesAnswer}
 use Rattle.dap_variables.specs.declared.answer.VariablesAnswer.TheVariants.{Outcome}
 use Rattle.dap_variables.specs.Answers.{has_frame, scopes_if, scopes_answer, rows_answer, variables_answer}

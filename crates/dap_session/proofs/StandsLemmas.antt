@@ -14,7 +14,7 @@ use Rattle.dap_answers.specs.declared.answer.Body.{Body}
 use Rattle.dap_board.specs.Commands.{Performed, Performs}
 use Rattle.dap_program.specs.Boards.{RepresentsSomeBoard}
 use Rattle.dap_program.specs.declared.slice.Slice.{Slice}
-use Rattle.dap_editor.specs.declared.request.ExceptionFilters.{ExceptionFilters}
+use Rattle.dap_requests.specs.declared.request.ExceptionFilters.{ExceptionFilters}
 use Rattle.dap_program.specs.Ends.{held_at_end}
 use Rattle.dap_program.specs.Slices.{IsSliceOf}
 use Rattle.dap_messages.specs.declared.message.EditorBody.TheVariants.{Board as OfBoard}

@@ -30,10 +30,10 @@ use Rattle.dap_talk.specs.declared.command.DapCommand.{DapCommand}
 use Rattle.dap_talk.specs.declared.command.DapCommand.TheVariants as command
 use Rattle.dap_board.specs.Bodies.{body_of}
 use Rattle.dap_board.specs.Commands.{first_line, command_result, board_with, step_request}
-use Rattle.dap_editor.specs.declared.request.RequestContent.{RequestContent}
-use Rattle.dap_editor.specs.declared.request.RequestContent.TheVariants as asked
-use Rattle.dap_editor.specs.declared.request.EditorCommand.{EditorCommand}
-use Rattle.dap_editor.specs.declared.request.EditorCommand.TheVariants as editor
+use Rattle.dap_requests.specs.declared.request.RequestContent.{RequestContent}
+use Rattle.dap_requests.specs.declared.request.RequestContent.TheVariants as asked
+use Rattle.dap_requests.specs.declared.request.EditorCommand.{EditorCommand}
+use Rattle.dap_requests.specs.declared.request.EditorCommand.TheVariants as editor
 use Rattle.dap_program.specs.Messages.{as_messages}
 use Rattle.dap_program.specs.Slices.{log_events, console_events, line_events, outcome_events, run_end_events}
 use Rattle.dap_program.specs.Slices.{stop_event}
@@ -42,11 +42,11 @@ use Rattle.dap_slice.specs.Logs.{logs_before}
 use Rattle.dap_slice.specs.SliceEnds.{change_after, ids_after}
 use Rattle.dap_program.specs.Slices.{asks_line}
 use Rattle.dap_messages.specs.declared.message.UndefinedOpcode.{UndefinedOpcode}
-use Rattle.dap_editor.specs.declared.request.Launch.{Launch as LaunchOf}
+use Rattle.dap_requests.specs.declared.request.Launch.{Launch as LaunchOf}
 use Rattle.dap_program.specs.declared.end.EndPolicy.{EndPolicy}
 use Rattle.dap_program.specs.declared.end.EndPolicy.TheVariants.{Exit, Hold}
 use Rattle.dap_program.specs.Ends.{exit_code, policy_at, left_at_end, held_at_end}
-use Rattle.dap_editor.specs.declared.request.ExceptionFilters.{ExceptionFilters}
+use Rattle.dap_requests.specs.declared.request.ExceptionFilters.{ExceptionFilters}
 use Rattle.dap_launch.specs.declared.file.FileText.{FileText}
 use Rattle.dap_launch.specs.declared.program.Phase.{Phase}
 use Rattle.dap_launch.specs.declared.program.Phase.TheVariants as phase

@@ -5,11 +5,11 @@ use Rattle.std.specs.Prelude.{if◌then◌else◌}
 use Rattle.base_text.specs.Bytes.{Text}
 use Rattle.lab_core.specs.Board.{Board}
 use Rattle.dap_messages.specs.declared.message.EditorBody.TheVariants.{Breakpoints, DataInfo, Locations}
-use Rattle.dap_editor.specs.declared.request.LineBreakpoint.{LineBreakpoint}
-use Rattle.dap_editor.specs.declared.request.FunctionBreakpoint.{FunctionBreakpoint}
-use Rattle.dap_editor.specs.declared.request.DataBreakpoint.{DataBreakpoint}
-use Rattle.dap_editor.specs.declared.request.InstructionBreakpoint.{InstructionBreakpoint}
-use Rattle.dap_editor.specs.declared.request.DataQuery.{DataQuery}
+use Rattle.dap_requests.specs.declared.request.LineBreakpoint.{LineBreakpoint}
+use Rattle.dap_requests.specs.declared.request.FunctionBreakpoint.{FunctionBreakpoint}
+use Rattle.dap_requests.specs.declared.request.DataBreakpoint.{DataBreakpoint}
+use Rattle.dap_requests.specs.declared.request.InstructionBreakpoint.{InstructionBreakpoint}
+use Rattle.dap_requests.specs.declared.request.DataQuery.{DataQuery}
 use Rattle.dap_points.specs.declared.points.SourceLines.{SourceLines}
 use Rattle.dap_points.specs.Points.{WantedBreakpointsState, number_of, has_place, with_lines}
 use Rattle.dap_slice.specs.declared.conditions.ConditionalBreakpoint.{ConditionalBreakpoint}

@@ -3,9 +3,9 @@
 use Rattle.std.specs.Prelude.{Result, Ok, Err, codes, if◌then◌else◌}
 use Rattle.base_text.specs.Bytes.{Text}
 use Rattle.dap_board.specs.Commands.{Performed, command_result}
-use Rattle.dap_editor.specs.declared.request.EvaluateContext.{EvaluateContext}
-use Rattle.dap_editor.specs.declared.request.EvaluateContext.TheVariants.{Repl, Watch, Other}
-use Rattle.dap_editor.specs.declared.request.VariablesCommand.{VariablesCommand}
+use Rattle.dap_requests.specs.declared.request.EvaluateContext.{EvaluateContext}
+use Rattle.dap_requests.specs.declared.request.EvaluateContext.TheVariants.{Repl, Watch, Other}
+use Rattle.dap_requests.specs.declared.request.VariablesCommand.{VariablesCommand}
 use Rattle.dap_history.specs.Runs.{after_input}
 use Rattle.dap_look.specs.declared.change.SetValue.{SetValue}
 use Rattle.dap_messages.specs.declared.message.ValueFormat.{ValueFormat}

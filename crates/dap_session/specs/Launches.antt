@@ -3,7 +3,7 @@ use Rattle.std.specs.Prelude.{ℕ, Option, Some, None, unwrap_or, Result, Ok, Er
 use Rattle.std.specs.Prelude.{if◌then◌else◌}
 use Rattle.base_text.specs.Bytes.{Text}
 use Rattle.lab_core.specs.Board.{Board}
-use Rattle.dap_editor.specs.declared.request.Launch.{Launch as LaunchOf}
+use Rattle.dap_requests.specs.declared.request.Launch.{Launch as LaunchOf}
 use Rattle.dap_launch.specs.declared.file.FileText.{FileText}
 use Rattle.dap_launch.specs.declared.program.Phase.{Phase}
 use Rattle.dap_launch.specs.declared.program.Phase.TheVariants as phase

@@ -17,14 +17,14 @@ use Rattle.dap_messages.specs.declared.message.Message.TheVariants as message
 use Rattle.dap_messages.specs.declared.message.EditorOutcome.{EditorOutcome}
 use Rattle.dap_messages.specs.declared.message.EditorOutcome.TheVariants.{Refused}
 use Rattle.dap_messages.specs.declared.message.OutputCategory.TheVariants.{Stdout}
-use Rattle.dap_editor.specs.declared.request.EvaluateContext.TheVariants as context
+use Rattle.dap_requests.specs.declared.request.EvaluateContext.TheVariants as context
 use Rattle.dap_talk.specs.declared.command.DapCommand.TheVariants as command
 use Rattle.dap_board.specs.Commands as board
-use Rattle.dap_editor.specs.declared.request.RequestContent.{RequestContent}
-use Rattle.dap_editor.specs.declared.request.RequestContent.TheVariants as asked
-use Rattle.dap_editor.specs.declared.request.EditorCommand.TheVariants as editor
-use Rattle.dap_editor.specs.declared.request.VariablesCommand.{VariablesCommand}
-use Rattle.dap_editor.specs.declared.request.VariablesCommand.TheVariants as variables
+use Rattle.dap_requests.specs.declared.request.RequestContent.{RequestContent}
+use Rattle.dap_requests.specs.declared.request.RequestContent.TheVariants as asked
+use Rattle.dap_requests.specs.declared.request.EditorCommand.TheVariants as editor
+use Rattle.dap_requests.specs.declared.request.VariablesCommand.{VariablesCommand}
+use Rattle.dap_requests.specs.declared.request.VariablesCommand.TheVariants as variables
 use Rattle.dap_program.specs.declared.messages.RequestId.{RequestId}
 use Rattle.dap_program.specs.declared.end.EndPolicy.TheVariants.{Hold}
 use Rattle.dap_program.specs.Ends.{exit_code}

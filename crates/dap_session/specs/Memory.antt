@@ -4,8 +4,8 @@ use Rattle.std.specs.Prelude.{None, codes, if◌then◌else◌}
 use Rattle.base_text.specs.Bytes.{Bytes, Text}
 use Rattle.i80_exec.specs.State.{MachineState}
 use Rattle.lab_views.specs.Code.{after_instructions}
-use Rattle.dap_arguments.specs.declared.offset.SignedOffset.{SignedOffset}
-use Rattle.dap_arguments.specs.declared.offset.SignedOffset.TheVariants.{Forward, Back}
+use Rattle.dap_requests.specs.declared.offset.SignedOffset.{SignedOffset}
+use Rattle.dap_requests.specs.declared.offset.SignedOffset.TheVariants.{Forward, Back}
 use Rattle.dap_messages.specs.declared.message.EditorBody.{EditorBody}
 use Rattle.dap_messages.specs.declared.message.EditorBody.TheVariants as body
 use Rattle.dap_messages.specs.declared.message.OperandStyle.{OperandStyle}

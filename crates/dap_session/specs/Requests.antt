@@ -14,12 +14,12 @@ use Rattle.dap_messages.specs.declared.message.EditorStop.TheVariants.{Board as 
 use Rattle.dap_messages.specs.declared.message.Numbering.{Numbering}
 use Rattle.dap_messages.specs.declared.message.OperandStyle.{OperandStyle}
 use Rattle.dap_messages.specs.Numbering.{from_1}
-use Rattle.dap_editor.specs.declared.request.RequestContent.{RequestContent}
-use Rattle.dap_editor.specs.declared.request.RequestContent.TheVariants as asked
-use Rattle.dap_editor.specs.declared.request.EditorCommand.{EditorCommand}
-use Rattle.dap_editor.specs.declared.request.EditorCommand.TheVariants as editor
-use Rattle.dap_arguments.specs.declared.offset.SignedOffset.{SignedOffset}
-use Rattle.dap_editor.specs.declared.request.SupportedEvents.{SupportedEvents}
+use Rattle.dap_requests.specs.declared.request.RequestContent.{RequestContent}
+use Rattle.dap_requests.specs.declared.request.RequestContent.TheVariants as asked
+use Rattle.dap_requests.specs.declared.request.EditorCommand.{EditorCommand}
+use Rattle.dap_requests.specs.declared.request.EditorCommand.TheVariants as editor
+use Rattle.dap_requests.specs.declared.offset.SignedOffset.{SignedOffset}
+use Rattle.dap_requests.specs.declared.request.SupportedEvents.{SupportedEvents}
 use Rattle.dap_program.specs.declared.messages.FollowUp.{FollowUp}
 use Rattle.dap_program.specs.declared.messages.FollowUp.TheVariants as follow
 use Rattle.dap_program.specs.Boards.{after}

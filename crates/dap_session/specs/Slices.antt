@@ -5,7 +5,7 @@ use Rattle.lab_core.specs.declared.answer.SliceOutcome.{SliceOutcome}
 use Rattle.lab_core.specs.declared.answer.SliceOutcome.TheVariants as outcome
 use Rattle.lab_core.specs.Slices.{traffic_of, after_steps, left_by}
 use Rattle.dap_messages.specs.declared.message.Message.{Message}
-use Rattle.dap_editor.specs.declared.request.EditorRequest.{EditorRequest}
+use Rattle.dap_requests.specs.declared.request.EditorRequest.{EditorRequest}
 use Rattle.dap_program.specs.declared.messages.RequestId.{RequestId}
 use Rattle.dap_program.specs.Messages.{as_messages, turn_messages}
 use Rattle.lab_core.specs.Board.{Board}

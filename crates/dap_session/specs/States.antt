@@ -3,9 +3,9 @@ use Rattle.std.specs.Prelude.{List, [], Bool, true, false, not, ◌&&◌, Option
 use Rattle.lab_core.specs.declared.run_state.RunState.{RunState}
 use Rattle.lab_core.specs.declared.run_state.RunState.TheVariants.{NoRun, Running, Stopped}
 use Rattle.lab_core.specs.Board.{Board, opening}
-use Rattle.dap_editor.specs.declared.request.ExceptionFilters.{ExceptionFilters}
-use Rattle.dap_editor.specs.declared.request.SupportedEvents.{SupportedEvents}
-use Rattle.dap_editor.specs.Argument.{no_filters}
+use Rattle.dap_requests.specs.declared.request.ExceptionFilters.{ExceptionFilters}
+use Rattle.dap_requests.specs.declared.request.SupportedEvents.{SupportedEvents}
+use Rattle.dap_requests.specs.Filters.{no_filters}
 use Rattle.dap_points.specs.Points.{WantedBreakpointsState, no_points}
 use Rattle.dap_slice.specs.declared.conditions.ConditionalBreakpoint.{ConditionalBreakpoint}
 use Rattle.dap_launch.specs.declared.program.Phase.TheVariants as phase

@@ -18,8 +18,8 @@ use Rattle.dap_messages.specs.declared.message.EditorOutcome.TheVariants.{Succes
 use Rattle.dap_messages.specs.declared.message.EditorVariable.{EditorVariable}
 use Rattle.dap_messages.specs.declared.message.ShownValue.{ShownValue}
 use Rattle.dap_messages.specs.declared.message.ValueFormat.{ValueFormat}
-use Rattle.dap_editor.specs.declared.request.VariablesCommand.{VariablesCommand}
-use Rattle.dap_editor.specs.declared.request.VariablesCommand.TheVariants as command
+use Rattle.dap_requests.specs.declared.request.VariablesCommand.{VariablesCommand}
+use Rattle.dap_requests.specs.declared.request.VariablesCommand.TheVariants as command
 use Rattle.dap_look.specs.declared.fault.LookFault.{LookFault}
 use Rattle.dap_look.specs.declared.change.SetValue.{SetValue}
 use Rattle.dap_look.specs.Faults.{message_of}

@@ -6,12 +6,12 @@ ghost use Rattle.dap_variables.specs.Answers as answers;
 
 use base_text::sequence::Sequence;
 use base_text::text::Text;
-use dap_editor::request::VariablesCommand;
 use dap_look::change::{SetValue, set_expression, set_variable};
 use dap_look::evaluation::evaluate;
 use dap_look::fault::LookFault;
 use dap_messages::message::{EditorBody, EditorOutcome, EditorVariable, ShownValue, ValueFormat};
 use dap_program::refusals::board_refusal;
+use dap_requests::request::VariablesCommand;
 use dap_show::completion::{Completions, complete};
 use dap_show::scopes::{sizes, variables};
 use dap_show::symbols::symbols_text;

@@ -11,7 +11,6 @@ ghost use Rattle.dap_session.specs.Represents.{RepresentsSession, RepliesAs, Arm
 use crate::session::Session;
 use base_text::sequence::Sequence;
 use base_text::text::Text;
-use dap_editor::request::{FunctionBreakpoint, LineBreakpoint};
 use dap_launch::points::{copy_functions, copy_source, labels_where, points_where};
 use dap_launch::program::{ProgramBreakpoints, arm_with, program_at, wanted_of};
 use dap_launch::reply::{Reply, succeed};
@@ -20,6 +19,7 @@ use dap_messages::message::{EditorBody, PlacedBreakpoint};
 use dap_points::placed::LABEL_NUMBER;
 use dap_points::points::SourceLines;
 use dap_program::messages::FollowUp;
+use dap_requests::request::{FunctionBreakpoint, LineBreakpoint};
 use dap_slice::conditions::ConditionalBreakpoints;
 use std::alloc::{AllocError, Global};
 

@@ -9,13 +9,13 @@ use crate::session::Session;
 use crate::session::requests::refuse_for;
 use base_text::text::Text;
 use dap_board::perform::perform;
-use dap_editor::request::{EvaluateContext, VariablesCommand};
 use dap_inputs::prompt::{PromptCommand, prompt_command};
 use dap_launch::reply::{Reply, succeed};
 use dap_look::change::SetValue;
 use dap_messages::message::{EditorBody, EditorOutcome, ValueFormat};
 use dap_program::messages::FollowUp;
 use dap_program::refusals::board_refusal;
+use dap_requests::request::{EvaluateContext, VariablesCommand};
 use dap_talk::command::DapCommand;
 use dap_variables::answer::{
     VariablesAnswer, done_value, evaluation, prompt_evaluation, variables_answer,

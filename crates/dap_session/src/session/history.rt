@@ -18,13 +18,13 @@ ghost use Rattle.dap_session.specs.Rewinds.{IsSearched, ForEachRun, ForEachSearc
 
 use crate::session::Session;
 use base_text::sequence::Sequence;
-use dap_editor::request::RequestContent;
 use dap_history::history::History;
 use dap_history::input::Input;
 use dap_history::replay::redo;
 use dap_inputs::inputs::input_of;
 use dap_launch::life::release_program;
 use dap_launch::program::{Phase, Program};
+use dap_requests::request::RequestContent;
 use dap_search::goal::Goal;
 use dap_search::scan::is_at_breakpoint;
 use dap_search::search::Search;

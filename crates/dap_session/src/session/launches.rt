@@ -12,7 +12,6 @@ ghost use Rattle.dap_session.specs.Represents.{RepresentsSession, RepliesAs, Tel
 use crate::session::Session;
 use base_text::sequence::Sequence;
 use base_text::text::Text;
-use dap_editor::request::Launch;
 use dap_launch::file::{FileText, program_text};
 use dap_launch::opening::{Opening, begun_follow};
 use dap_launch::points::all_changed;
@@ -25,6 +24,7 @@ use dap_program::failure::failure;
 use dap_program::load::{LoadFault, Loaded, load};
 use dap_program::messages::{FollowUp, RequestId};
 use dap_program::opening::{LoadReason, opening_messages};
+use dap_requests::request::Launch;
 use dap_slice::conditions::ConditionalBreakpoints;
 use std::alloc::{AllocError, Global};
 

@@ -9,8 +9,6 @@ ghost use Rattle.dap_session.specs.Represents.{RepresentsSession, RepliesAs};
 
 use crate::session::Session;
 use base_text::sequence::Bytes;
-use dap_arguments::offset::SignedOffset;
-use dap_editor::request::{EditorCommand, RequestContent};
 use dap_inspect::before::before_instructions;
 use dap_inspect::disassembly::instructions;
 use dap_inspect::memory::read_memory;
@@ -19,6 +17,8 @@ use dap_messages::message::{EditorBody, OperandStyle};
 use dap_program::memory::{address_at, far_address, wrapped_at, writable};
 use dap_program::messages::FollowUp;
 use dap_program::refusals::board_refusal;
+use dap_requests::offset::SignedOffset;
+use dap_requests::request::{EditorCommand, RequestContent};
 use lab_core::fault::EventFault;
 use lab_core::run_state::RunState;
 use std::alloc::{AllocError, Global};

@@ -3,7 +3,7 @@ use Rattle.dap_slice.specs.declared.conditions.ConditionalBreakpoint.{Conditiona
 use Rattle.dap_messages.specs.declared.message.EditorBody.TheVariants.{Breakpoints}
 use Rattle.dap_messages.specs.declared.message.EditorOutcome.TheVariants.{Success}
 use Rattle.dap_messages.specs.declared.message.PlacedBreakpoint.{PlacedBreakpoint}
-use Rattle.dap_editor.specs.declared.request.InstructionBreakpoint.{InstructionBreakpoint}
+use Rattle.dap_requests.specs.declared.request.InstructionBreakpoint.{InstructionBreakpoint}
 use Rattle.dap_launch.specs.declared.reply.Reply.{Reply}
 use Rattle.dap_launch.specs.Points.{instructions_where}
 use Rattle.dap_session.specs.declared.settings.SessionSettings.{SessionSettings}

@@ -1,2 +1,0 @@
-pub mod Argument
-pub mod Answer

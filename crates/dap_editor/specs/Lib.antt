@@ -1,3 +1,0 @@
-pub mod Argument
-pub mod Table
-pub mod Reading

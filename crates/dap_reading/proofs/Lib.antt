@@ -1,0 +1,2 @@
+pub mod GranularityLemmas
+pub mod ListLemmas

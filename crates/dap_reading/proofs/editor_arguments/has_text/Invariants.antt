@@ -1,0 +1,8 @@
+use Rattle.std.proofs.Common.{◌≡◌, drop}
+use Rattle.serde_json.specs.View.{items_view}
+use Rattle.dap_reading.specs.EditorArgument.{has_text}
+use Rattle.dap_reading.proofs.editor_arguments.has_text.Given as goal
+
+abbrev pub invariant-loop-value : goal.invariant-loop-value
+invariant-loop-value l = has_text l.text (items_view (drop l.value-index l.values))
+    ≡ has_text l.text (items_view l.values)

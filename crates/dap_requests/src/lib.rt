@@ -1,0 +1,6 @@
+// The requests of editors (Debug Adapter Protocol), apart from their JSON: the commands of editors beside
+// those that the kernel has too (`request`), and offsets that may be negative (`offset`).
+#![tactic(auto)]
+
+pub mod offset;
+pub mod request;
