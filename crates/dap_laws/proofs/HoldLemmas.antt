@@ -22,7 +22,7 @@ use Rattle.dap_search.specs.declared.goal.Goal.{Goal}
 use Rattle.dap_history.specs.Runs.{board_at}
 use Rattle.dap_launch.specs.declared.file.FileText.{FileText}
 use Rattle.dap_requests.specs.declared.request.EditorRequest.{EditorRequest}
-use Rattle.dap_inputs.specs.Inputs.{input_of, is_success, as_meant}
+use Rattle.dap_prompt.specs.Inputs.{input_of, is_success, as_meant}
 use Rattle.dap_session.specs.States.{SessionState, with_waits, has_watch_commands}
 use Rattle.dap_session.specs.Turns.{Turn}
 use Rattle.dap_session.specs.Requests as session

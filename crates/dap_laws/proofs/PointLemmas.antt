@@ -22,7 +22,7 @@ use Rattle.dap_points.specs.Placed.{no_options}
 use Rattle.dap_program.specs.Boards.{after}
 use Rattle.dap_lines.specs.Conditions.{log_read, with_log, stop_at, stop_with, own_stop, breakpoint_at}
 use Rattle.dap_lines.specs.Conditions.{plain_point, conditional_point, conditional_points}
-use Rattle.dap_lines.specs.Targets.{first_target}
+use Rattle.dap_disassembly.specs.Targets.{first_target}
 use Rattle.dap_launch.specs.declared.program.Program.{Program}
 use Rattle.dap_launch.specs.Programs.{ProgramLists, placed_on, armed_for, conditional_in, off_lines}
 use Rattle.dap_launch.specs.Programs.{conditional_for}

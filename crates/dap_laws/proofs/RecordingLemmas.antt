@@ -13,7 +13,7 @@ use Rattle.dap_history.proofs.LogLemmas.{ascends-up_to, ascends-push, latest-up_
 use Rattle.dap_history.proofs.RunLemmas.{at_up_to}
 use Rattle.dap_launch.specs.declared.file.FileText.{FileText}
 use Rattle.dap_launch.specs.Lives.{held_ends}
-use Rattle.dap_inputs.specs.Inputs.{after_input_if, is_success}
+use Rattle.dap_prompt.specs.Inputs.{after_input_if, is_success}
 use Rattle.dap_session.specs.States.{SessionState, with_waits}
 use Rattle.dap_session.specs.Rewinds.{can_go_back, held_at, put_to}
 use Rattle.dap_slice.specs.declared.conditions.ConditionalBreakpoint.{ConditionalBreakpoint}

@@ -20,7 +20,7 @@ use Rattle.dap_requests.specs.declared.request.EditorCommand.TheVariants as edit
 use Rattle.dap_requests.specs.declared.request.EvaluateContext.TheVariants as context
 use Rattle.dap_requests.specs.declared.request.RequestContent.{RequestContent}
 use Rattle.dap_requests.specs.declared.request.RequestContent.TheVariants as asked
-use Rattle.dap_inputs.specs.Inputs.{as_meant}
+use Rattle.dap_prompt.specs.Inputs.{as_meant}
 use Rattle.dap_search.specs.declared.goal.Goal.{Goal}
 use Rattle.dap_search.specs.declared.goal.Goal.TheVariants.{Statement, Breakpoint, Count}
 use Rattle.dap_search.specs.Goals.{is_goal}

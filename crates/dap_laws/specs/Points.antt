@@ -16,7 +16,7 @@ use Rattle.dap_slice.specs.declared.hits.HitCondition.{HitCondition}
 use Rattle.dap_points.specs.Boards.{is_plain}
 use Rattle.lab_image.specs.Breakpoints.{is_met}
 use Rattle.dap_lines.specs.Conditions.{condition_read, hits_read, log_read, log_point, stop_at, own_stop}
-use Rattle.dap_lines.specs.Targets.{first_target}
+use Rattle.dap_disassembly.specs.Targets.{first_target}
 use Rattle.dap_program.specs.Breakpoints.{lines_on, labels_on}
 use Rattle.dap_launch.specs.declared.program.Program.{Program}
 use Rattle.dap_launch.specs.Programs.{ProgramLists, armed_for, conditional_for}

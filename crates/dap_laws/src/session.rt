@@ -18,7 +18,7 @@ ghost use Rattle.dap_session.specs.Slices.{Input, caller_of, request_told, slice
 ghost use Rattle.dap_session.specs.Laws.{callers_answered, callers_asking, console_of, all_written};
 ghost use Rattle.dap_session.specs.Laws.{shown_by, shown_for, EndsAreTold, EndIsTold, RefusalLeaves};
 ghost use Rattle.dap_session.specs.Laws.{IsWatched, IsTold, IsLook, SameParts, asks_to_load};
-ghost use Rattle.dap_inputs.specs.Inputs.{input_of, after_input_if};
+ghost use Rattle.dap_prompt.specs.Inputs.{input_of, after_input_if};
 ghost use Rattle.dap_session.specs.Rewinds.{RunLasts};
 
 /// Each request has one response, in the order in which they came, with its number and its command.

@@ -1,3 +1,2 @@
-pub mod CodeLineLemmas
 pub mod HitLemmas
 pub mod HitLawLemmas

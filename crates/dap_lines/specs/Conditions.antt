@@ -29,7 +29,7 @@ use Rattle.dap_messages.specs.declared.message.GotoTarget.{GotoTarget}
 use Rattle.dap_messages.specs.declared.message.PlacedBreakpoint.{PlacedBreakpoint}
 use Rattle.dap_points.specs.Boards.{is_plain, verified_line}
 use Rattle.dap_lines.specs.HitConditions.{hit_condition_of}
-use Rattle.dap_lines.specs.Targets.{first_target}
+use Rattle.dap_disassembly.specs.Targets.{first_target}
 
 -- ---- what there is to object to a breakpoint's condition
 

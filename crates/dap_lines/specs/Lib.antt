@@ -1,4 +1,3 @@
-pub mod Targets
 pub mod HitConditions
 pub mod Conditions
-pub mod CodeLines
+pub mod Landings

@@ -14,13 +14,13 @@ ghost use Rattle.dap_lines.specs.Conditions.{hit_objection, hits_read, unhit, st
 ghost use Rattle.dap_points.specs.Boards.{verified_line};
 ghost use Rattle.dap_lines.specs.Conditions.{log_point, with_log, own_stop, conditional_point};
 ghost use Rattle.dap_lines.specs.Conditions.{conditional_points};
-ghost use Rattle.dap_lines.specs.Targets as targets;
+ghost use Rattle.dap_disassembly.specs.Targets as targets;
 
 use crate::hits::hit_condition;
-use crate::target::first_target;
 use asm_expr::evaluation::ExprFault;
 use asm_syntax::fault::{FaultKind, LineFault};
 use base_text::text::Text;
+use dap_disassembly::target::first_target;
 use dap_expr::expression::Expression;
 use dap_log::message::{LogFault, LogMessage};
 use dap_messages::message::{BreakpointNote, BreakpointOptions, GotoTarget, PlacedBreakpoint};

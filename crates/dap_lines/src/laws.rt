@@ -1,17 +1,8 @@
 //! Laws of the definitions.
-ghost use Rattle.std.specs.Prelude.{◌≡◌, ◌<◌, ℕ, Some, true};
+ghost use Rattle.std.specs.Prelude.{◌≡◌, Some, true};
 ghost use Rattle.std.specs.Int.{is_in_range};
-ghost use Rattle.std.specs.List.{Contains};
-ghost use Rattle.lab_core.specs.Board.{Board};
 ghost use Rattle.dap_slice.specs.declared.hits.HitCondition.{HitCondition};
-ghost use Rattle.dap_lines.specs.CodeLines.{code_lines, line_at};
 ghost use Rattle.dap_lines.specs.HitConditions.{hit_condition_of, spelling, number_in};
-
-/// On each line where a breakpoint may land a statement begins.
-pub fn statement_begins()
-    ensures { (b : Board) (line : ℕ) → Contains (code_lines b) line
-        → (address : ℕ) × (address < 65536) × (line_at b address ≡ Some line) }
-{}
 
 /// A hit condition is read as it is written.
 #[tactic(auto, using(crate::proofs::HitLawLemmas::read_as_written))]

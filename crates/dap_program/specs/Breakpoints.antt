@@ -6,11 +6,11 @@ use Rattle.lab_core.specs.Board.{Board}
 use Rattle.dap_messages.specs.declared.message.PlacedBreakpoint.{PlacedBreakpoint}
 use Rattle.dap_requests.specs.declared.request.LineBreakpoint.{LineBreakpoint}
 use Rattle.dap_requests.specs.declared.request.FunctionBreakpoint.{FunctionBreakpoint}
-use Rattle.dap_inspect.specs.Labels.{line_of_label}
+use Rattle.dap_disassembly.specs.Labels.{line_of_label}
 use Rattle.dap_points.specs.declared.placed.FoundLabel.{FoundLabel}
 use Rattle.dap_points.specs.Placed.{line_points, label_points}
 use Rattle.dap_program.specs.Boards.{after}
-use Rattle.dap_lines.specs.CodeLines.{landed_at}
+use Rattle.dap_lines.specs.Landings.{landed_at}
 use Rattle.dap_lines.specs.Conditions.{objection}
 
 -- on these lines of the program, which is the source with this number

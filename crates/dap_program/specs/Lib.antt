@@ -9,4 +9,3 @@ pub mod Kits
 pub mod Breakpoints
 pub mod Openings
 pub mod Failures
-pub mod Memory

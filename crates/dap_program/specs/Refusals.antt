@@ -7,7 +7,7 @@ use Rattle.lab_core.specs.declared.fault.EventFault.{EventFault}
 use Rattle.lab_core.specs.declared.fault.EventFault.TheVariants as fault
 use Rattle.dap_requests.specs.declared.request.RequestFault.{RequestFault}
 use Rattle.dap_requests.specs.declared.request.RequestFault.TheVariants as request
-use Rattle.dap_inspect.specs.Words.{told_at}
+use Rattle.dap_disassembly.specs.Words.{told_at}
 
 -- what a board refuses
 abbrev pub board_refusal : EventFault → Text

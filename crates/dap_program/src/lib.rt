@@ -12,7 +12,6 @@ pub mod end;
 pub mod failure;
 pub mod load;
 mod logs;
-pub mod memory;
 pub mod messages;
 pub mod opening;
 pub mod refusals;

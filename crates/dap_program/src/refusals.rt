@@ -5,7 +5,7 @@ ghost use Rattle.dap_program.specs.Refusals.{assembly_refusal};
 
 use asm_syntax::fault::FaultKind;
 use base_text::text::Text;
-use dap_inspect::words::told_at;
+use dap_disassembly::words::told_at;
 use dap_messages::message::EditorOutcome;
 use dap_requests::request::RequestFault;
 use lab_core::fault::EventFault;

@@ -25,7 +25,7 @@ use Rattle.dap_launch.specs.declared.file.FileText.{FileText}
 use Rattle.dap_launch.specs.Lives.{exception_of}
 use Rattle.dap_program.specs.declared.messages.FollowUp.TheVariants.{Nothing}
 use Rattle.dap_program.specs.declared.messages.RequestId.{RequestId}
-use Rattle.dap_inputs.specs.Inputs.{ends_question}
+use Rattle.dap_prompt.specs.Inputs.{ends_question}
 use Rattle.dap_session.specs.States.{SessionState, with_waits, after_answer}
 use Rattle.dap_session.specs.Turns.{Replied}
 use Rattle.dap_session.specs.Requests as session

@@ -31,7 +31,7 @@ use Rattle.dap_program.proofs.SliceLemmas.{told-append}
 use Rattle.dap_session.specs.States.{SessionState}
 use Rattle.dap_session.specs.Turns.{Turn}
 use Rattle.dap_session.specs.Requests as session
-use Rattle.dap_inputs.specs.Inputs.{input_of, is_success}
+use Rattle.dap_prompt.specs.Inputs.{input_of, is_success}
 use Rattle.dap_session.specs.Rewinds.{can_go_back}
 use Rattle.dap_session.specs.Laws.{SameParts, asks_to_load}
 use Rattle.dap_session.specs.Represents.{SessionFields, RepresentsSession}

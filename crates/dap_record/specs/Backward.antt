@@ -25,12 +25,12 @@ use Rattle.dap_search.specs.Goals.{is_goal, goal_below}
 use Rattle.dap_search.specs.Searches.{counts_hits}
 use Rattle.dap_slice.specs.Stops.{back_ids}
 use Rattle.dap_program.specs.Slices.{met_event}
-use Rattle.dap_variables.specs.Answers.{done_value}
+use Rattle.dap_prompt.specs.Answers.{done_value}
 use Rattle.dap_program.specs.declared.messages.FollowUp.TheVariants.{Nothing, Stopped}
 use Rattle.dap_program.specs.Refusals.{board_refusal}
 use Rattle.dap_session.specs.States.{SessionState}
 use Rattle.dap_session.specs.Turns.{Replied, refusing, succeeding}
-use Rattle.dap_inputs.specs.Prompt.{behind}
+use Rattle.dap_prompt.specs.Prompt.{behind}
 use Rattle.dap_session.specs.Memory.{is_stopped}
 use Rattle.dap_session.specs.Rewinds.{can_go_back, held_at, rewound, target_for}
 use Rattle.dap_record.specs.declared.back.Back.{Back}

@@ -10,7 +10,7 @@ use Rattle.dap_program.specs.Messages.{turn_messages}
 use Rattle.dap_session.specs.States.{SessionState}
 use Rattle.dap_session.specs.Represents.{SessionFields, RepresentsSession}
 use Rattle.dap_session.specs.Requests as session
-use Rattle.dap_inputs.specs.Inputs.{input_of, after_input_if}
+use Rattle.dap_prompt.specs.Inputs.{input_of, after_input_if}
 use Rattle.dap_session.specs.Rewinds.{can_go_back}
 use Rattle.dap_session.specs.Laws.{SameParts, asks_to_load}
 use Rattle.dap_record.specs.declared.note.Before.{Before}

@@ -11,7 +11,7 @@ use Rattle.dap_history.specs.Logs.{up_to, later_than, size_of_input, log_size}
 use Rattle.dap_history.specs.Runs.{after_input}
 use Rattle.dap_session.specs.States.{SessionState, session_before_requests}
 use Rattle.dap_session.specs.Turns.{Turn}
-use Rattle.dap_inputs.specs.Inputs.{input_of, is_success}
+use Rattle.dap_prompt.specs.Inputs.{input_of, is_success}
 use Rattle.dap_session.specs.Rewinds.{can_go_back}
 use Rattle.dap_session.specs.Laws.{asks_to_load}
 

@@ -11,7 +11,7 @@ use Rattle.dap_search.specs.declared.goal.Goal.{Goal}
 use Rattle.dap_launch.specs.declared.reply.Reply.{Reply}
 use Rattle.dap_session.specs.States.{SessionState}
 use Rattle.dap_session.specs.Represents.{SessionFields, RepresentsSession}
-use Rattle.dap_inputs.specs.Inputs.{is_success}
+use Rattle.dap_prompt.specs.Inputs.{is_success}
 use Rattle.dap_session.specs.Rewinds.{can_go_back, target_for}
 use Rattle.dap_session.specs.Laws.{SameParts}
 use Rattle.dap_record.specs.declared.back.Back.{Back}

@@ -2,7 +2,7 @@
 ghost use Rattle.std.specs.Prelude.{◌≡◌, codes};
 ghost use Rattle.dap_record.specs.Backward as backward;
 ghost use Rattle.dap_record.specs.Backward.{number_from, positive, back_by, back_line, is_digit};
-ghost use Rattle.dap_inputs.specs.Prompt.{behind};
+ghost use Rattle.dap_prompt.specs.Prompt.{behind};
 
 use dap_requests::request::{EditorCommand, EvaluateContext, RequestContent};
 use lab_shown::step::Granularity;

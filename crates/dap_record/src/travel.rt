@@ -17,9 +17,9 @@ use dap_answers::answer::{Body, StopReason};
 use dap_launch::reply::{Reply, succeed};
 use dap_messages::message::{EditorBody, EditorStop};
 use dap_program::messages::FollowUp;
+use dap_prompt::answer::done_value;
 use dap_search::goal::Goal;
 use dap_session::session::Session;
-use dap_variables::answer::done_value;
 use lab_shown::step::Granularity;
 use std::alloc::{AllocError, Global};
 

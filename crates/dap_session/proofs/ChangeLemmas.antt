@@ -45,18 +45,18 @@ use Rattle.dap_requests.specs.declared.request.EvaluateContext.TheVariants as co
 use Rattle.dap_requests.specs.declared.request.RequestContent.{RequestContent}
 use Rattle.dap_requests.specs.declared.request.RequestContent.TheVariants as asked
 use Rattle.dap_requests.specs.declared.offset.SignedOffset.{SignedOffset}
-use Rattle.dap_look.specs.declared.change.SetValue.{SetValue}
+use Rattle.dap_values.specs.declared.assignment.SetValue.{SetValue}
 use Rattle.dap_requests.specs.declared.request.VariablesCommand.{VariablesCommand}
-use Rattle.dap_variables.specs.declared.answer.VariablesAnswer.{VariablesAnswer}
-use Rattle.dap_variables.specs.declared.answer.VariablesAnswer.TheVariants.{Outcome, Change}
-use Rattle.dap_variables.specs.Answers.{variables_answer}
+use Rattle.dap_prompt.specs.declared.answer.VariablesAnswer.{VariablesAnswer}
+use Rattle.dap_prompt.specs.declared.answer.VariablesAnswer.TheVariants.{Outcome, Change}
+use Rattle.dap_prompt.specs.Answers.{variables_answer}
 use Rattle.dap_points.specs.Points.{has_place}
 use Rattle.dap_program.specs.declared.messages.FollowUp.{FollowUp}
 use Rattle.dap_program.specs.declared.messages.FollowUp.TheVariants as follow
 use Rattle.dap_program.specs.Boards.{board_after}
 use Rattle.dap_program.specs.Breakpoints.{board_armed_at}
 use Rattle.dap_program.specs.Ends.{exit_code}
-use Rattle.dap_program.specs.Memory.{address_at}
+use Rattle.dap_values.specs.Distances.{address_at}
 use Rattle.dap_program.specs.Messages.{event_if, events_of}
 use Rattle.dap_launch.specs.declared.file.FileText.{FileText}
 use Rattle.dap_launch.specs.declared.program.Phase.{Phase}
@@ -70,7 +70,7 @@ use Rattle.dap_session.specs.Turns.{Replied, change_follow}
 use Rattle.dap_launch.specs.Programs.{program_at}
 use Rattle.dap_session.specs.Breakpoints.{armed_where}
 use Rattle.dap_session.specs.Evaluations.{command_reply}
-use Rattle.dap_inputs.specs.Prompt.{behind, byte_spelled, byte_command, command_with}
+use Rattle.dap_prompt.specs.Prompt.{behind, byte_spelled, byte_command, command_with}
 use Rattle.dap_session.specs.Evaluations.{prompting, evaluating, setting, handling_by, handling}
 use Rattle.dap_session.specs.Launches.{beginning_in, beginning_where}
 use Rattle.dap_session.specs.Memory.{is_stopped, writing_from, writing}

@@ -43,16 +43,16 @@ use Rattle.dap_requests.specs.declared.offset.SignedOffset.{SignedOffset}
 use Rattle.dap_history.specs.declared.input.Input.{Input}
 use Rattle.dap_history.specs.declared.input.Input.TheVariants as input
 use Rattle.dap_history.specs.Runs.{board_of, after_input}
-use Rattle.dap_look.specs.declared.change.SetValue.{SetValue}
+use Rattle.dap_values.specs.declared.assignment.SetValue.{SetValue}
 use Rattle.dap_requests.specs.declared.request.VariablesCommand.{VariablesCommand}
-use Rattle.dap_variables.specs.declared.answer.VariablesAnswer.{VariablesAnswer}
-use Rattle.dap_variables.specs.declared.answer.VariablesAnswer.TheVariants.{Outcome, Change}
-use Rattle.dap_variables.specs.Answers.{change_in, value_set, variables_answer}
+use Rattle.dap_prompt.specs.declared.answer.VariablesAnswer.{VariablesAnswer}
+use Rattle.dap_prompt.specs.declared.answer.VariablesAnswer.TheVariants.{Outcome, Change}
+use Rattle.dap_prompt.specs.Answers.{change_in, value_set, variables_answer}
 use Rattle.dap_points.specs.Points.{has_place}
 use Rattle.dap_program.specs.declared.messages.FollowUp.{FollowUp}
 use Rattle.dap_program.specs.declared.messages.FollowUp.TheVariants as follow
 use Rattle.dap_program.specs.Ends.{exit_code}
-use Rattle.dap_program.specs.Memory.{address_at}
+use Rattle.dap_values.specs.Distances.{address_at}
 use Rattle.dap_launch.specs.declared.file.FileText.{FileText}
 use Rattle.dap_launch.specs.declared.program.Phase.{Phase}
 use Rattle.dap_launch.specs.declared.program.Phase.TheVariants as phase
@@ -62,10 +62,10 @@ use Rattle.dap_session.specs.States.{SessionState}
 use Rattle.dap_session.specs.Turns.{Turn, Replied, turn_of, change_follow}
 use Rattle.dap_launch.specs.Programs.{program_at}
 use Rattle.dap_session.specs.Evaluations.{command_reply}
-use Rattle.dap_inputs.specs.Prompt.{behind, byte_spelled, byte_command, command_with}
+use Rattle.dap_prompt.specs.Prompt.{behind, byte_spelled, byte_command, command_with}
 use Rattle.dap_session.specs.Evaluations.{prompting, evaluating, setting, handling_by, handling}
-use Rattle.dap_inputs.specs.Inputs.{place_input, valued_input, named_input, command_input, prompt_input}
-use Rattle.dap_inputs.specs.Inputs.{bytes_input, set_input, input_of, after_input_if}
+use Rattle.dap_prompt.specs.Inputs.{place_input, valued_input, named_input, command_input, prompt_input}
+use Rattle.dap_prompt.specs.Inputs.{bytes_input, set_input, input_of, after_input_if}
 use Rattle.dap_session.specs.Launches.{beginning_in, beginning_where}
 use Rattle.dap_session.specs.Memory.{is_stopped, writing_from, writing}
 use Rattle.dap_session.specs.Targets.{going_to}

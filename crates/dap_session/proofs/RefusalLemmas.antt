@@ -18,11 +18,11 @@ use Rattle.dap_requests.specs.declared.request.Launch.{Launch as LaunchOf}
 use Rattle.dap_requests.specs.declared.request.RequestContent.{RequestContent}
 use Rattle.dap_requests.specs.declared.request.RequestContent.TheVariants as asked
 use Rattle.dap_requests.specs.declared.offset.SignedOffset.{SignedOffset}
-use Rattle.dap_look.specs.declared.change.SetValue.{SetValue}
+use Rattle.dap_values.specs.declared.assignment.SetValue.{SetValue}
 use Rattle.dap_requests.specs.declared.request.VariablesCommand.{VariablesCommand}
-use Rattle.dap_variables.specs.declared.answer.VariablesAnswer.{VariablesAnswer}
-use Rattle.dap_variables.specs.declared.answer.VariablesAnswer.TheVariants.{Outcome, Change}
-use Rattle.dap_variables.specs.Answers.{variables_answer}
+use Rattle.dap_prompt.specs.declared.answer.VariablesAnswer.{VariablesAnswer}
+use Rattle.dap_prompt.specs.declared.answer.VariablesAnswer.TheVariants.{Outcome, Change}
+use Rattle.dap_prompt.specs.Answers.{variables_answer}
 use Rattle.dap_points.specs.Points.{has_place}
 use Rattle.dap_program.specs.declared.load.LoadFault.{LoadFault}
 use Rattle.dap_program.specs.declared.messages.FollowUp.{FollowUp}
@@ -30,7 +30,7 @@ use Rattle.dap_program.specs.declared.opening.LoadReason.{LoadReason}
 use Rattle.dap_program.specs.declared.opening.LoadReason.TheVariants.{Launch, Restart}
 use Rattle.dap_program.specs.Ends.{exit_code}
 use Rattle.dap_program.specs.Loading.{load_result}
-use Rattle.dap_program.specs.Memory.{address_at}
+use Rattle.dap_values.specs.Distances.{address_at}
 use Rattle.dap_launch.specs.declared.file.FileText.{FileText}
 use Rattle.dap_launch.specs.declared.program.Phase.{Phase}
 use Rattle.dap_launch.specs.declared.program.Phase.TheVariants as phase
@@ -41,7 +41,7 @@ use Rattle.dap_session.specs.States.{SessionState}
 use Rattle.dap_session.specs.Turns.{Replied, Turn}
 use Rattle.dap_session.specs.Breakpoints.{setting_lines}
 use Rattle.dap_session.specs.Evaluations.{command_reply}
-use Rattle.dap_inputs.specs.Prompt.{behind, byte_spelled, byte_command, command_with}
+use Rattle.dap_prompt.specs.Prompt.{behind, byte_spelled, byte_command, command_with}
 use Rattle.dap_session.specs.Evaluations.{prompting, evaluating, setting, handling_by}
 use Rattle.dap_session.specs.Launches.{beginning_in, beginning_where, loading_as, by_text, loading}
 use Rattle.dap_session.specs.Launches.{launching_over, restarting_of}

@@ -8,11 +8,11 @@ use Rattle.dap_messages.specs.declared.message.EditorOutcome.{EditorOutcome}
 use Rattle.dap_messages.specs.declared.message.EditorVariable.{EditorVariable}
 use Rattle.dap_requests.specs.declared.request.VariablesCommand.{VariablesCommand}
 use Rattle.dap_requests.specs.declared.request.VariablesCommand.TheVariants as variables
-use Rattle.dap_variables.specs.declared.answer.VariablesAnswer.{VariablesAnswer}
-use Rattle.dap_variables.specs.declared.answer.VariablesAnswer.TheVariants.{Outcome}
-use Rattle.dap_variables.specs.Answers.{has_frame, scopes_if, scopes_answer, rows_answer, variables_answer}
-use Rattle.dap_variables.specs.Answers.{change_in, value_set}
-use Rattle.dap_inputs.specs.Inputs.{set_input}
+use Rattle.dap_prompt.specs.declared.answer.VariablesAnswer.{VariablesAnswer}
+use Rattle.dap_prompt.specs.declared.answer.VariablesAnswer.TheVariants.{Outcome}
+use Rattle.dap_prompt.specs.Answers.{has_frame, scopes_if, scopes_answer, rows_answer, variables_answer}
+use Rattle.dap_prompt.specs.Answers.{change_in, value_set}
+use Rattle.dap_prompt.specs.Inputs.{set_input}
 use Rattle.dap_session.specs.States.{SessionState}
 use Rattle.dap_session.specs.Evaluations.{showing, handling_by, handling}
 use Rattle.dap_session.specs.Laws.{IsShown}

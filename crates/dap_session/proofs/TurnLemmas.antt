@@ -28,17 +28,17 @@ use Rattle.dap_requests.specs.declared.request.FunctionBreakpoint.{FunctionBreak
 use Rattle.dap_requests.specs.declared.request.EvaluateContext.{EvaluateContext}
 use Rattle.dap_requests.specs.declared.request.EvaluateContext.TheVariants as context
 use Rattle.dap_requests.specs.declared.offset.SignedOffset.{SignedOffset}
-use Rattle.dap_look.specs.declared.change.SetValue.{SetValue}
+use Rattle.dap_values.specs.declared.assignment.SetValue.{SetValue}
 use Rattle.dap_requests.specs.declared.request.VariablesCommand.{VariablesCommand}
 use Rattle.dap_history.specs.Runs.{after_input}
-use Rattle.dap_variables.specs.declared.answer.VariablesAnswer.{VariablesAnswer}
-use Rattle.dap_variables.specs.declared.answer.VariablesAnswer.TheVariants.{Outcome, Change}
-use Rattle.dap_variables.specs.Answers.{variables_answer}
+use Rattle.dap_prompt.specs.declared.answer.VariablesAnswer.{VariablesAnswer}
+use Rattle.dap_prompt.specs.declared.answer.VariablesAnswer.TheVariants.{Outcome, Change}
+use Rattle.dap_prompt.specs.Answers.{variables_answer}
 use Rattle.dap_points.specs.Points.{has_place}
 use Rattle.dap_program.specs.declared.messages.FollowUp.TheVariants as follow
 use Rattle.dap_program.specs.Boards.{after}
 use Rattle.dap_program.specs.Boards.{after_goto}
-use Rattle.dap_program.specs.Memory.{address_at}
+use Rattle.dap_values.specs.Distances.{address_at}
 use Rattle.dap_program.specs.Refusals.{board_refusal}
 use Rattle.lab_core.specs.declared.fault.EventFault.TheVariants.{NotStopped}
 use Rattle.lab_core.specs.Changes.{after_write}
@@ -53,7 +53,7 @@ use Rattle.dap_session.specs.Turns.{Replied, change_follow, refusing, accepting}
 use Rattle.dap_launch.specs.Programs.{program_at}
 use Rattle.dap_session.specs.Breakpoints.{setting_lines, setting_functions}
 use Rattle.dap_session.specs.Evaluations.{command_reply}
-use Rattle.dap_inputs.specs.Prompt.{behind, byte_spelled, byte_command, command_with}
+use Rattle.dap_prompt.specs.Prompt.{behind, byte_spelled, byte_command, command_with}
 use Rattle.dap_session.specs.Evaluations.{prompting, evaluating, setting, handling_by, handling}
 use Rattle.dap_session.specs.Memory.{is_stopped, writing_from, writing}
 use Rattle.dap_session.specs.Targets.{going_to}

@@ -15,7 +15,7 @@ use Rattle.dap_points.specs.Points.{WantedBreakpointsState, number_of, has_place
 use Rattle.dap_slice.specs.declared.conditions.ConditionalBreakpoint.{ConditionalBreakpoint}
 use Rattle.dap_slice.specs.Counts.{with_counts}
 use Rattle.dap_program.specs.declared.messages.FollowUp.TheVariants.{Nothing}
-use Rattle.dap_lines.specs.CodeLines.{locations}
+use Rattle.dap_disassembly.specs.CodeLines.{locations}
 use Rattle.dap_data.specs.Info.{data_info}
 use Rattle.dap_launch.specs.declared.program.Program.{Program}
 use Rattle.dap_launch.specs.Programs.{ProgramLists, program_at, program_lists, armed_for, conditional_for}

@@ -7,20 +7,20 @@ use Rattle.dap_requests.specs.declared.request.EvaluateContext.{EvaluateContext}
 use Rattle.dap_requests.specs.declared.request.EvaluateContext.TheVariants.{Repl, Watch, Other}
 use Rattle.dap_requests.specs.declared.request.VariablesCommand.{VariablesCommand}
 use Rattle.dap_history.specs.Runs.{after_input}
-use Rattle.dap_look.specs.declared.change.SetValue.{SetValue}
+use Rattle.dap_values.specs.declared.assignment.SetValue.{SetValue}
 use Rattle.dap_messages.specs.declared.message.ValueFormat.{ValueFormat}
 use Rattle.dap_messages.specs.declared.message.EditorBody.TheVariants.{Evaluation, Value}
 use Rattle.dap_messages.specs.declared.message.EditorOutcome.{EditorOutcome}
-use Rattle.dap_variables.specs.declared.answer.VariablesAnswer.{VariablesAnswer}
-use Rattle.dap_variables.specs.declared.answer.VariablesAnswer.TheVariants.{Outcome, Change}
-use Rattle.dap_variables.specs.Answers.{evaluation, prompt_evaluation, variables_answer}
-use Rattle.dap_variables.specs.Answers.{done_value}
+use Rattle.dap_prompt.specs.declared.answer.VariablesAnswer.{VariablesAnswer}
+use Rattle.dap_prompt.specs.declared.answer.VariablesAnswer.TheVariants.{Outcome, Change}
+use Rattle.dap_prompt.specs.Answers.{evaluation, prompt_evaluation, variables_answer}
+use Rattle.dap_prompt.specs.Answers.{done_value}
 use Rattle.lab_core.specs.declared.fault.EventFault.TheVariants.{NotStopped}
 use Rattle.dap_program.specs.declared.messages.FollowUp.TheVariants.{Nothing}
 use Rattle.dap_program.specs.Refusals.{board_refusal}
-use Rattle.dap_inputs.specs.Prompt.{prompt_command}
-use Rattle.dap_inputs.specs.declared.prompt.PromptCommand.{PromptCommand}
-use Rattle.dap_inputs.specs.declared.prompt.PromptCommand.TheVariants as prompt
+use Rattle.dap_prompt.specs.Prompt.{prompt_command}
+use Rattle.dap_prompt.specs.declared.prompt.PromptCommand.{PromptCommand}
+use Rattle.dap_prompt.specs.declared.prompt.PromptCommand.TheVariants as prompt
 use Rattle.dap_session.specs.States.{SessionState, with_board}
 use Rattle.dap_session.specs.Memory.{is_stopped}
 use Rattle.dap_session.specs.Turns.{Replied, change_follow, refusing, succeeding}

@@ -9,10 +9,10 @@ use Rattle.dap_requests.specs.declared.offset.SignedOffset.TheVariants.{Forward,
 use Rattle.dap_messages.specs.declared.message.EditorBody.{EditorBody}
 use Rattle.dap_messages.specs.declared.message.EditorBody.TheVariants as body
 use Rattle.dap_messages.specs.declared.message.OperandStyle.{OperandStyle}
-use Rattle.dap_inspect.specs.Disassembly.{instructions_from}
-use Rattle.dap_inspect.specs.Memory.{bytes_from}
-use Rattle.dap_inspect.specs.Instructions.{before_instructions}
-use Rattle.dap_program.specs.Memory.{address_at}
+use Rattle.dap_disassembly.specs.Disassembly.{instructions_from}
+use Rattle.dap_values.specs.Memory.{bytes_from}
+use Rattle.dap_disassembly.specs.Instructions.{before_instructions}
+use Rattle.dap_values.specs.Distances.{address_at}
 use Rattle.dap_program.specs.Refusals.{board_refusal}
 use Rattle.lab_core.specs.declared.fault.EventFault.TheVariants.{NotStopped}
 use Rattle.lab_core.specs.declared.run_state.RunState.{RunState}

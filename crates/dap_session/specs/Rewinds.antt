@@ -15,7 +15,7 @@ use Rattle.dap_launch.specs.Lives.{released_program}
 use Rattle.dap_session.specs.States.{SessionState, with_board}
 use Rattle.dap_session.specs.Turns.{Turn}
 use Rattle.dap_session.specs.declared.settings.SessionSettings.{SessionSettings}
-use Rattle.dap_inputs.specs.Inputs.{is_success}
+use Rattle.dap_prompt.specs.Inputs.{is_success}
 use Rattle.dap_session.specs.Laws.{SameParts, has_run, has_begun}
 use Rattle.dap_session.specs.Represents.{SessionFields, RepresentsSession}
 

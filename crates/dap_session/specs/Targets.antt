@@ -9,7 +9,7 @@ use Rattle.dap_messages.specs.declared.message.GotoTarget.{GotoTarget}
 use Rattle.dap_program.specs.declared.messages.FollowUp.TheVariants.{Nothing, Stopped}
 use Rattle.dap_program.specs.Boards.{after_goto}
 use Rattle.dap_program.specs.Refusals.{board_refusal}
-use Rattle.dap_lines.specs.Targets.{first_target}
+use Rattle.dap_disassembly.specs.Targets.{first_target}
 use Rattle.dap_launch.specs.declared.program.Program.{Program}
 use Rattle.dap_session.specs.States.{SessionState, with_board, program_released}
 use Rattle.dap_session.specs.Turns.{Replied, refusing, succeeding, accepting}

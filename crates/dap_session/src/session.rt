@@ -22,13 +22,13 @@ mod targets;
 
 use crate::settings::{NO_EVENTS, SessionSettings};
 use base_text::sequence::Sequence;
-use dap_inputs::inputs::ends_question;
 use dap_launch::file::FileText;
 use dap_launch::life::NO_FILTERS;
 use dap_launch::reply::{Reply, refuse};
 use dap_messages::message::Message;
 use dap_points::points::WantedBreakpoints;
 use dap_program::messages::{Messages, RequestId};
+use dap_prompt::inputs::ends_question;
 use dap_requests::request::{EditorCommand, EditorRequest, RequestContent};
 use dap_slice::conditions::ConditionalBreakpoints;
 use lab_core::lab::Lab;

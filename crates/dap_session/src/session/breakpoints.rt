@@ -11,10 +11,10 @@ ghost use Rattle.dap_session.specs.Represents.{RepresentsSession, RepliesAs, Arm
 use crate::session::Session;
 use base_text::sequence::Sequence;
 use base_text::text::Text;
+use dap_disassembly::code_lines::locations;
 use dap_launch::points::{copy_functions, copy_source, labels_where, points_where};
 use dap_launch::program::{ProgramBreakpoints, arm_with, program_at, wanted_of};
 use dap_launch::reply::{Reply, succeed};
-use dap_lines::code_lines::locations;
 use dap_messages::message::{EditorBody, PlacedBreakpoint};
 use dap_points::placed::LABEL_NUMBER;
 use dap_points::points::SourceLines;

@@ -1,7 +1,7 @@
 //! Evaluations, lines of the debugger's prompt, and variables.
 ghost use Rattle.dap_session.specs.Evaluations.{evaluating, command_reply, prompting};
 ghost use Rattle.dap_session.specs.Evaluations.{setting_stopped, handling};
-ghost use Rattle.dap_inputs.specs.Prompt.{prompt_command};
+ghost use Rattle.dap_prompt.specs.Prompt.{prompt_command};
 ghost use Rattle.dap_board.specs.Commands.{command_result, IsPerformable};
 ghost use Rattle.dap_session.specs.Represents.{RepliesAs};
 
@@ -9,17 +9,17 @@ use crate::session::Session;
 use crate::session::requests::refuse_for;
 use base_text::text::Text;
 use dap_board::perform::perform;
-use dap_inputs::prompt::{PromptCommand, prompt_command};
 use dap_launch::reply::{Reply, succeed};
-use dap_look::change::SetValue;
 use dap_messages::message::{EditorBody, EditorOutcome, ValueFormat};
 use dap_program::messages::FollowUp;
 use dap_program::refusals::board_refusal;
-use dap_requests::request::{EvaluateContext, VariablesCommand};
-use dap_talk::command::DapCommand;
-use dap_variables::answer::{
+use dap_prompt::answer::{
     VariablesAnswer, done_value, evaluation, prompt_evaluation, variables_answer,
 };
+use dap_prompt::prompt::{PromptCommand, prompt_command};
+use dap_requests::request::{EvaluateContext, VariablesCommand};
+use dap_talk::command::DapCommand;
+use dap_values::assignment::SetValue;
 use lab_core::fault::EventFault;
 use std::alloc::{AllocError, Global};
 

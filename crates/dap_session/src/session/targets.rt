@@ -5,10 +5,10 @@ ghost use Rattle.dap_session.specs.Represents.{RepresentsSession, Replies, Repli
 
 use crate::session::Session;
 use base_text::text::Text;
+use dap_disassembly::target::first_target;
 use dap_launch::life::release_program;
 use dap_launch::program::program_at;
 use dap_launch::reply::{Reply, accept, succeed};
-use dap_lines::target::first_target;
 use dap_messages::message::{EditorBody, EditorStop};
 use dap_program::change::set_pc;
 use dap_program::messages::FollowUp;

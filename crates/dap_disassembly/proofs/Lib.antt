@@ -1,0 +1,4 @@
+pub mod BeforeLemmas
+pub mod WordLemmas
+pub mod DisassemblyLemmas
+pub mod CodeLineLemmas

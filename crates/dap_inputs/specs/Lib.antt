@@ -1,2 +1,0 @@
-pub mod Prompt
-pub mod Inputs

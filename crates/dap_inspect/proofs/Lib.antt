@@ -1,3 +1,0 @@
-pub mod BeforeLemmas
-pub mod WordLemmas
-pub mod DisassemblyLemmas

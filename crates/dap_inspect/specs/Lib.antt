@@ -1,6 +1,0 @@
-pub mod Format
-pub mod Memory
-pub mod Instructions
-pub mod Disassembly
-pub mod Labels
-pub mod Words

@@ -1,5 +1,0 @@
-use Rattle.dap_look.proofs.ShownLemmas.{change_is_shown}
-use Rattle.dap_look.proofs.laws.change_is_shown.Goals as goal
-
-pub returns : goal.returns
-returns c = change_is_shown

@@ -1,5 +1,0 @@
-use Rattle.dap_look.proofs.ShownLemmas.{value_is_shown}
-use Rattle.dap_look.proofs.laws.value_is_shown.Goals as goal
-
-pub returns : goal.returns
-returns c = value_is_shown

@@ -1,0 +1,3 @@
+pub mod Prompt
+pub mod Inputs
+pub mod Answers

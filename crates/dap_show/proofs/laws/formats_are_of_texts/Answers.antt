@@ -1,5 +1,0 @@
-use Rattle.dap_show.proofs.RowLemmas.{formats_alike}
-use Rattle.dap_show.proofs.laws.formats_are_of_texts.Goals as goal
-
-pub returns : goal.returns
-returns c = formats_alike

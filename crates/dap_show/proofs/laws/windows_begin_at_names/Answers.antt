@@ -1,8 +1,0 @@
-use Rattle.dap_show.proofs.RowLemmas.{memory_leads, stack_leads}
-use Rattle.dap_show.proofs.laws.windows_begin_at_names.Goals as goal
-
-pub returns-clause-memory : goal.returns-clause-memory
-returns-clause-memory c = memory_leads
-
-pub returns-clause-stack : goal.returns-clause-stack
-returns-clause-stack c = stack_leads

@@ -1,3 +1,0 @@
-pub mod TargetLemmas
-pub mod ValueLemmas
-pub mod ChangeLemmas

@@ -1,0 +1,4 @@
+pub mod ShownLemmas
+pub mod TargetLemmas
+pub mod ValueLemmas
+pub mod ChangeLemmas

@@ -1,0 +1,10 @@
+pub mod Format
+pub mod Memory
+pub mod Faults
+pub mod Shown
+pub mod Evaluation
+pub mod Variables
+pub mod Assignments
+pub mod Distances
+pub mod Targets
+pub mod Changes
