@@ -1,4 +1,3 @@
 pub mod BeforeLemmas
-pub mod WordLemmas
 pub mod DisassemblyLemmas
 pub mod CodeLineLemmas

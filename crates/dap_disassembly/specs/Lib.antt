@@ -1,6 +1,5 @@
 pub mod Instructions
 pub mod Disassembly
 pub mod Labels
-pub mod Words
 pub mod Targets
 pub mod CodeLines

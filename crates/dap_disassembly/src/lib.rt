@@ -12,4 +12,3 @@ pub mod disassembly;
 pub mod label;
 pub mod laws;
 pub mod target;
-pub mod words;

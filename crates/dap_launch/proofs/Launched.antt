@@ -9,7 +9,7 @@ use Rattle.dap_image.specs.Images.{Cells}
 use Rattle.dap_image.specs.Law.{AreInRange, TakesText, HasBytes}
 use Rattle.dap_image.specs.Texts.{program_for, text_for}
 use Rattle.dap_image.proofs.Loaded.{text_loads, opening_takes_text}
-use Rattle.dap_program.specs.Loading.{attached_where, board_to_load_on, loaded_by, load_result}
+use Rattle.dap_launch.specs.Loading.{attached_where, board_to_load_on, loaded_by, load_result}
 use Rattle.dap_launch.specs.declared.file.FileText.TheVariants as file
 use Rattle.dap_launch.specs.Files.{place_of, or_message, program_text}
 use Rattle.dap_launch.specs.Laws.{LaunchesProgram}

@@ -1,1 +1,2 @@
 pub mod Launched
+pub mod LoadLemmas

@@ -7,7 +7,7 @@ use Rattle.dap_board.specs.Commands.{board_with}
 use Rattle.dap_requests.specs.declared.request.Launch.{Launch}
 use Rattle.dap_image.specs.Images.{Cells}
 use Rattle.dap_image.specs.Law.{HasBytes}
-use Rattle.dap_program.specs.Loading.{load_result}
+use Rattle.dap_launch.specs.Loading.{load_result}
 
 -- the machine after power-on, with the launch's treatment of undefined opcodes
 abbrev pub machine_for : Launch → MachineState

@@ -1,5 +1,6 @@
 pub mod Files
-pub mod Lives
 pub mod Programs
-pub mod Points
 pub mod Laws
+pub mod Loading
+pub mod Openings
+pub mod Failures

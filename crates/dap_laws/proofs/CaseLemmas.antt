@@ -6,7 +6,7 @@ use Rattle.lab_core.specs.declared.fault.EventFault.TheVariants.{NotStopped}
 use Rattle.dap_requests.specs.declared.request.RequestContent.{RequestContent}
 use Rattle.dap_search.specs.declared.goal.Goal.{Goal}
 use Rattle.dap_launch.specs.declared.file.FileText.{FileText}
-use Rattle.dap_program.specs.Refusals.{board_refusal}
+use Rattle.dap_run.specs.Refusals.{board_refusal}
 use Rattle.dap_session.specs.Slices.{slice_end_in}
 use Rattle.dap_session.specs.States.{wants_slice}
 use Rattle.dap_session.specs.Turns.{Turn}

@@ -6,12 +6,12 @@ use Rattle.lab_core.specs.declared.answer.End.{End}
 use Rattle.lab_core.specs.Board.{Board}
 use Rattle.lab_core.specs.Slices.{after_steps, left_by}
 use Rattle.dap_messages.specs.declared.message.Message.{Message}
-use Rattle.dap_program.specs.declared.end.EndPolicy.{EndPolicy}
-use Rattle.dap_program.specs.declared.end.EndPolicy.TheVariants.{Exit, Hold}
-use Rattle.dap_program.specs.Messages.{as_messages}
+use Rattle.dap_run.specs.declared.end.EndPolicy.{EndPolicy}
+use Rattle.dap_run.specs.declared.end.EndPolicy.TheVariants.{Exit, Hold}
+use Rattle.dap_run.specs.Messages.{as_messages}
 use Rattle.dap_session.specs.Slices.{slice_end_in, after_slice_in}
-use Rattle.dap_program.specs.Slices.{policy_events}
-use Rattle.dap_launch.specs.Lives.{policy_of}
+use Rattle.dap_run.specs.Slices.{policy_events}
+use Rattle.dap_run.specs.Lives.{policy_of}
 use Rattle.dap_session.specs.States.{SessionState, wants_slice, with_board}
 use Rattle.dap_session.specs.Slices.{Told, slicing}
 use Rattle.dap_session.specs.Laws.{EndIsTold}

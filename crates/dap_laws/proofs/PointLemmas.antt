@@ -19,13 +19,13 @@ use Rattle.dap_slice.specs.declared.conditions.Trigger.TheVariants.{Address}
 use Rattle.dap_messages.specs.declared.message.BreakpointOptions.{BreakpointOptions}
 use Rattle.dap_points.specs.Boards.{is_plain, verified_line}
 use Rattle.dap_points.specs.Placed.{no_options}
-use Rattle.dap_program.specs.Boards.{after}
-use Rattle.dap_lines.specs.Conditions.{log_read, with_log, stop_at, stop_with, own_stop, breakpoint_at}
-use Rattle.dap_lines.specs.Conditions.{plain_point, conditional_point, conditional_points}
+use Rattle.dap_run.specs.Boards.{after}
+use Rattle.dap_conditions.specs.Conditions.{log_read, with_log, stop_at, stop_with, own_stop, breakpoint_at}
+use Rattle.dap_conditions.specs.Conditions.{plain_point, conditional_point, conditional_points}
 use Rattle.dap_disassembly.specs.Targets.{first_target}
-use Rattle.dap_launch.specs.declared.program.Program.{Program}
-use Rattle.dap_launch.specs.Programs.{ProgramLists, placed_on, armed_for, conditional_in, off_lines}
-use Rattle.dap_launch.specs.Programs.{conditional_for}
+use Rattle.dap_run.specs.declared.program.Program.{Program}
+use Rattle.dap_breakpoints.specs.Arming.{ProgramLists, placed_on, armed_for, conditional_in, off_lines}
+use Rattle.dap_breakpoints.specs.Arming.{conditional_for}
 use Rattle.dap_laws.specs.Points.{told_on, IsVerified, BeginsOn, IsMetByBoard, IsMetInSlices, AsksFor}
 
 -- ---- lists of lines

@@ -12,7 +12,7 @@ use Rattle.dap_history.specs.Runs.{after_input, board_at}
 use Rattle.dap_history.proofs.LogLemmas.{ascends-up_to, ascends-push, latest-up_to}
 use Rattle.dap_history.proofs.RunLemmas.{at_up_to}
 use Rattle.dap_launch.specs.declared.file.FileText.{FileText}
-use Rattle.dap_launch.specs.Lives.{held_ends}
+use Rattle.dap_run.specs.Lives.{held_ends}
 use Rattle.dap_prompt.specs.Inputs.{after_input_if, is_success}
 use Rattle.dap_session.specs.States.{SessionState, with_waits}
 use Rattle.dap_session.specs.Rewinds.{can_go_back, held_at, put_to}

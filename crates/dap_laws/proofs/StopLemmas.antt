@@ -30,13 +30,13 @@ use Rattle.dap_history.specs.declared.input.Recorded.{Recorded}
 use Rattle.dap_history.specs.Logs.{up_to}
 use Rattle.dap_history.specs.Runs.{board_of, after_input, board_at}
 use Rattle.dap_launch.specs.declared.file.FileText.{FileText}
-use Rattle.dap_launch.specs.declared.program.Phase.{Phase}
-use Rattle.dap_launch.specs.declared.program.Phase.TheVariants as phase
-use Rattle.dap_launch.specs.declared.program.Program.{Program}
-use Rattle.dap_launch.specs.Lives.{is_over, is_live, released_phase, released_program}
-use Rattle.dap_program.specs.Messages.{as_messages}
+use Rattle.dap_run.specs.declared.program.Phase.{Phase}
+use Rattle.dap_run.specs.declared.program.Phase.TheVariants as phase
+use Rattle.dap_run.specs.declared.program.Program.{Program}
+use Rattle.dap_run.specs.Lives.{is_over, is_live, released_phase, released_program}
+use Rattle.dap_run.specs.Messages.{as_messages}
 use Rattle.dap_session.specs.Slices.{slice_end_in}
-use Rattle.dap_program.proofs.SliceLemmas.{told-append}
+use Rattle.dap_run.proofs.SliceLemmas.{told-append}
 use Rattle.dap_session.specs.States.{SessionState, is_running, wants_slice}
 use Rattle.dap_session.specs.Memory.{is_stopped}
 use Rattle.dap_session.specs.Rewinds.{is_debugged, can_go_back, held_at, put_to, after_search}

@@ -19,7 +19,7 @@ use Rattle.dap_search.specs.declared.goal.Goal.TheVariants.{Statement, Breakpoin
 use Rattle.dap_search.specs.Goals.{is_goal}
 use Rattle.dap_slice.specs.Stops.{back_ids}
 use Rattle.dap_launch.specs.declared.file.FileText.{FileText}
-use Rattle.dap_program.specs.Messages.{as_messages}
+use Rattle.dap_run.specs.Messages.{as_messages}
 use Rattle.dap_session.specs.States.{SessionState, wants_slice}
 use Rattle.dap_session.specs.Slices as session
 use Rattle.dap_session.specs.Slices.{caller_of, slicing}

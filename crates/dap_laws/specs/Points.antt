@@ -15,11 +15,11 @@ use Rattle.dap_slice.specs.declared.conditions.Trigger.TheVariants.{Address}
 use Rattle.dap_slice.specs.declared.hits.HitCondition.{HitCondition}
 use Rattle.dap_points.specs.Boards.{is_plain}
 use Rattle.lab_image.specs.Breakpoints.{is_met}
-use Rattle.dap_lines.specs.Conditions.{condition_read, hits_read, log_read, log_point, stop_at, own_stop}
+use Rattle.dap_conditions.specs.Conditions.{condition_read, hits_read, log_read, log_point, stop_at, own_stop}
 use Rattle.dap_disassembly.specs.Targets.{first_target}
-use Rattle.dap_program.specs.Breakpoints.{lines_on, labels_on}
-use Rattle.dap_launch.specs.declared.program.Program.{Program}
-use Rattle.dap_launch.specs.Programs.{ProgramLists, armed_for, conditional_for}
+use Rattle.dap_breakpoints.specs.Lines.{lines_on, labels_on}
+use Rattle.dap_run.specs.declared.program.Program.{Program}
+use Rattle.dap_breakpoints.specs.Arming.{ProgramLists, armed_for, conditional_for}
 
 -- what is told of the breakpoints on lines and at labels that are wanted of a program
 abbrev pub told_on : Board → ProgramLists → List PlacedBreakpoint

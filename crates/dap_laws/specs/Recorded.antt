@@ -12,9 +12,9 @@ use Rattle.dap_search.specs.declared.goal.Goal.{Goal}
 use Rattle.dap_history.specs.Logs.{Ascends, up_to}
 use Rattle.dap_history.specs.Runs.{board_at}
 use Rattle.dap_search.specs.Goals.{passes}
-use Rattle.dap_launch.specs.Lives.{is_live}
-use Rattle.dap_program.specs.declared.messages.RequestId.{RequestId}
-use Rattle.dap_program.specs.Messages.{as_messages}
+use Rattle.dap_run.specs.Lives.{is_live}
+use Rattle.dap_run.specs.declared.messages.RequestId.{RequestId}
+use Rattle.dap_run.specs.Messages.{as_messages}
 use Rattle.dap_session.specs.States.{SessionState, wants_slice, with_waits, has_watch_commands}
 use Rattle.dap_session.specs.Rewinds.{can_go_back, after_search, target_for}
 use Rattle.dap_session.specs.Slices.{Told, caller_of}

@@ -2,10 +2,10 @@
 ghost use Rattle.std.specs.Prelude.{◌⊎◌, ℕ};
 ghost use Rattle.std.specs.List.{Contains};
 ghost use Rattle.lab_core.specs.Board.{Board};
-ghost use Rattle.dap_launch.specs.declared.program.Program.{Program};
+ghost use Rattle.dap_run.specs.declared.program.Program.{Program};
 ghost use Rattle.dap_messages.specs.declared.message.PlacedBreakpoint.{PlacedBreakpoint};
 ghost use Rattle.dap_slice.specs.declared.conditions.ConditionalBreakpoint.{ConditionalBreakpoint};
-ghost use Rattle.dap_launch.specs.Programs.{ProgramLists, conditional_for};
+ghost use Rattle.dap_breakpoints.specs.Arming.{ProgramLists, conditional_for};
 ghost use Rattle.dap_laws.specs.Points.{IsVerified, BeginsOn, IsMetByBoard, IsMetInSlices, told_on, AsksFor};
 
 /// A breakpoint without options that an editor is told of as verified is met wherever a statement on its line

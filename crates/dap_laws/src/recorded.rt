@@ -13,7 +13,7 @@ ghost use Rattle.dap_slice.specs.Tallies.{is_any_full};
 ghost use Rattle.dap_search.specs.declared.goal.Goal.{Goal};
 ghost use Rattle.dap_search.specs.Recounts.{after_hits_from};
 ghost use Rattle.dap_launch.specs.declared.file.FileText.{FileText};
-ghost use Rattle.dap_program.specs.Messages.{response, as_messages};
+ghost use Rattle.dap_run.specs.Messages.{response, as_messages};
 ghost use Rattle.dap_session.specs.States.{SessionState};
 ghost use Rattle.dap_session.specs.Rewinds.{after_search};
 ghost use Rattle.dap_session.specs.Slices.{after_slice_in, slice_end_in};

@@ -10,7 +10,7 @@ ghost use Rattle.dap_requests.specs.declared.request.EditorCommand.TheVariants a
 ghost use Rattle.dap_requests.specs.declared.request.EditorRequest.{EditorRequest};
 ghost use Rattle.dap_requests.specs.declared.request.RequestContent.{RequestContent};
 ghost use Rattle.dap_requests.specs.declared.request.EvaluateContext.TheVariants as context;
-ghost use Rattle.dap_program.specs.Messages.{response, as_messages};
+ghost use Rattle.dap_run.specs.Messages.{response, as_messages};
 ghost use Rattle.dap_launch.specs.declared.file.FileText.{FileText};
 ghost use Rattle.dap_session.specs.States.{SessionState, session_before_requests, wants_slice};
 ghost use Rattle.dap_session.specs.Requests.{turn};

@@ -7,6 +7,7 @@
 
 pub mod board;
 pub mod changes;
+pub mod copies;
 pub mod kind;
 pub mod laws;
 pub mod note;

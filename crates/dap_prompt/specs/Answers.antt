@@ -30,7 +30,7 @@ use Rattle.dap_scopes.specs.declared.scopes.ScopeSizes.{ScopeSizes}
 use Rattle.dap_scopes.specs.Completions.{completions_on}
 use Rattle.dap_scopes.specs.Scopes.{variables_on, sizes_on}
 use Rattle.dap_scopes.specs.Symbols.{symbols_with}
-use Rattle.dap_program.specs.Refusals.{board_refusal}
+use Rattle.dap_run.specs.Refusals.{board_refusal}
 use Rattle.dap_prompt.specs.declared.answer.VariablesAnswer.{VariablesAnswer}
 use Rattle.dap_prompt.specs.declared.answer.VariablesAnswer.TheVariants.{Outcome, Change}
 

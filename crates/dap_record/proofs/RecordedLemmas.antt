@@ -22,9 +22,9 @@ use Rattle.dap_requests.specs.declared.request.RequestContent.{RequestContent}
 use Rattle.dap_requests.specs.declared.request.RequestContent.TheVariants as asked
 use Rattle.dap_search.specs.declared.goal.Goal.{Goal}
 use Rattle.dap_launch.specs.declared.file.FileText.{FileText}
-use Rattle.dap_launch.specs.Lives.{exception_of}
-use Rattle.dap_program.specs.declared.messages.FollowUp.TheVariants.{Nothing}
-use Rattle.dap_program.specs.declared.messages.RequestId.{RequestId}
+use Rattle.dap_run.specs.Lives.{exception_of}
+use Rattle.dap_run.specs.declared.messages.FollowUp.TheVariants.{Nothing}
+use Rattle.dap_run.specs.declared.messages.RequestId.{RequestId}
 use Rattle.dap_prompt.specs.Inputs.{ends_question}
 use Rattle.dap_session.specs.States.{SessionState, with_waits, after_answer}
 use Rattle.dap_session.specs.Turns.{Replied}

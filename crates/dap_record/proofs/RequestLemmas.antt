@@ -25,9 +25,9 @@ use Rattle.dap_history.specs.Runs.{after_input, at_from, board_at}
 use Rattle.dap_history.proofs.LogLemmas.{ascends-up_to, latest-up_to}
 use Rattle.dap_history.proofs.RunLemmas.{goes_on_appended, at_up_to}
 use Rattle.dap_launch.specs.declared.file.FileText.{FileText}
-use Rattle.dap_program.specs.declared.messages.RequestId.{RequestId}
-use Rattle.dap_program.specs.Messages.{turn_messages, as_messages}
-use Rattle.dap_program.proofs.SliceLemmas.{told-append}
+use Rattle.dap_run.specs.declared.messages.RequestId.{RequestId}
+use Rattle.dap_run.specs.Messages.{turn_messages, as_messages}
+use Rattle.dap_run.proofs.SliceLemmas.{told-append}
 use Rattle.dap_session.specs.States.{SessionState}
 use Rattle.dap_session.specs.Turns.{Turn}
 use Rattle.dap_session.specs.Requests as session

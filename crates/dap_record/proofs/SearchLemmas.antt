@@ -6,7 +6,7 @@ use Rattle.dap_history.specs.Histories.{KeepsHistory}
 use Rattle.dap_history.specs.Runs.{board_at, after_rewind}
 use Rattle.dap_search.specs.Goals.{goal_below}
 use Rattle.dap_search.specs.Searches.{SearchState, IsSearchOf}
-use Rattle.dap_program.specs.Messages.{as_messages}
+use Rattle.dap_run.specs.Messages.{as_messages}
 use Rattle.dap_session.specs.States.{SessionState, with_board}
 use Rattle.dap_session.specs.Represents.{SessionFields, RepresentsSession}
 use Rattle.dap_session.specs.Rewinds.{after_search, SearchedFurther, target_for}

@@ -16,14 +16,14 @@ use Rattle.dap_session.specs.Slices.{slice_end_in}
 use Rattle.dap_slice.proofs.SliceLemmas.{end_within}
 use Rattle.dap_requests.specs.declared.request.ExceptionFilters.{ExceptionFilters}
 use Rattle.dap_messages.specs.declared.message.Message.{Message}
-use Rattle.dap_program.specs.declared.end.EndPolicy.{EndPolicy}
-use Rattle.dap_program.specs.declared.end.EndPolicy.TheVariants.{Exit, Hold}
-use Rattle.dap_program.specs.Ends.{policy_at, left_at_end, held_at_end}
+use Rattle.dap_run.specs.declared.end.EndPolicy.{EndPolicy}
+use Rattle.dap_run.specs.declared.end.EndPolicy.TheVariants.{Exit, Hold}
+use Rattle.dap_run.specs.Ends.{policy_at, left_at_end, held_at_end}
 use Rattle.dap_history.specs.declared.input.Recorded.{Recorded}
 use Rattle.dap_history.specs.Logs.{Ascends, up_to, later_than}
 use Rattle.dap_history.specs.Runs.{after_input, board_at}
 use Rattle.dap_history.proofs.LogLemmas.{all_later_than, skipped, ascends_from}
-use Rattle.dap_launch.specs.Lives.{held_ends}
+use Rattle.dap_run.specs.Lives.{held_ends}
 use Rattle.dap_session.specs.declared.session.RunSlice.{RunSlice}
 use Rattle.dap_session.specs.States.{SessionState, with_board, wants_slice}
 use Rattle.dap_session.specs.Slices as session

@@ -10,12 +10,12 @@ use Rattle.dap_history.specs.declared.input.Recorded.{Recorded}
 use Rattle.dap_search.specs.Searches.{SearchState, IsSearchOf}
 use Rattle.dap_search.proofs.SearchLemmas.{held_search}
 use Rattle.dap_history.specs.Runs.{board_at, after_rewind}
-use Rattle.dap_launch.specs.declared.program.Phase.TheVariants as phase
-use Rattle.dap_launch.specs.declared.program.Phase.{Phase}
-use Rattle.dap_launch.specs.declared.program.Program.{Program}
-use Rattle.dap_launch.specs.Lives.{released_phase, released_program}
-use Rattle.dap_launch.specs.declared.reply.Reply.{Reply}
-use Rattle.dap_program.specs.declared.messages.FollowUp.TheVariants.{Nothing, Stopped}
+use Rattle.dap_run.specs.declared.program.Phase.TheVariants as phase
+use Rattle.dap_run.specs.declared.program.Phase.{Phase}
+use Rattle.dap_run.specs.declared.program.Program.{Program}
+use Rattle.dap_run.specs.Lives.{released_phase, released_program}
+use Rattle.dap_run.specs.declared.reply.Reply.{Reply}
+use Rattle.dap_run.specs.declared.messages.FollowUp.TheVariants.{Nothing, Stopped}
 use Rattle.dap_messages.specs.declared.message.EditorBody.{EditorBody}
 use Rattle.dap_messages.specs.declared.message.EditorOutcome.TheVariants.{Success}
 use Rattle.dap_session.specs.States.{SessionState}

@@ -24,10 +24,10 @@ use Rattle.dap_history.specs.Runs.{board_at}
 use Rattle.dap_search.specs.Goals.{is_goal, goal_below}
 use Rattle.dap_search.specs.Searches.{counts_hits}
 use Rattle.dap_slice.specs.Stops.{back_ids}
-use Rattle.dap_program.specs.Slices.{met_event}
+use Rattle.dap_run.specs.Slices.{met_event}
 use Rattle.dap_prompt.specs.Answers.{done_value}
-use Rattle.dap_program.specs.declared.messages.FollowUp.TheVariants.{Nothing, Stopped}
-use Rattle.dap_program.specs.Refusals.{board_refusal}
+use Rattle.dap_run.specs.declared.messages.FollowUp.TheVariants.{Nothing, Stopped}
+use Rattle.dap_run.specs.Refusals.{board_refusal}
 use Rattle.dap_session.specs.States.{SessionState}
 use Rattle.dap_session.specs.Turns.{Replied, refusing, succeeding}
 use Rattle.dap_prompt.specs.Prompt.{behind}

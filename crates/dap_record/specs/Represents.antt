@@ -8,7 +8,7 @@ use Rattle.dap_history.specs.Histories.{IsHistoryOf}
 use Rattle.dap_history.specs.Runs.{board_at, after_rewind}
 use Rattle.dap_search.specs.Searches.{IsSearchOf}
 use Rattle.dap_search.specs.declared.goal.Goal.{Goal}
-use Rattle.dap_launch.specs.declared.reply.Reply.{Reply}
+use Rattle.dap_run.specs.declared.reply.Reply.{Reply}
 use Rattle.dap_session.specs.States.{SessionState}
 use Rattle.dap_session.specs.Represents.{SessionFields, RepresentsSession}
 use Rattle.dap_prompt.specs.Inputs.{is_success}

@@ -14,8 +14,8 @@ use Rattle.dap_history.specs.declared.input.Recorded.{Recorded}
 use Rattle.dap_search.specs.declared.goal.Goal.{Goal}
 use Rattle.dap_history.specs.Logs.{up_to}
 use Rattle.dap_launch.specs.declared.file.FileText.{FileText}
-use Rattle.dap_program.specs.declared.messages.RequestId.{RequestId}
-use Rattle.dap_program.specs.Messages.{turn_messages, as_messages}
+use Rattle.dap_run.specs.declared.messages.RequestId.{RequestId}
+use Rattle.dap_run.specs.Messages.{turn_messages, as_messages}
 use Rattle.dap_prompt.specs.Inputs.{as_meant}
 use Rattle.dap_session.specs.States.{SessionState, with_board, wants_slice, has_watch_commands}
 use Rattle.dap_session.specs.Rewinds.{after_search}

@@ -12,8 +12,8 @@ use Rattle.dap_messages.specs.declared.message.OutputCategory.TheVariants.{Conso
 use Rattle.dap_requests.specs.declared.request.RequestContent.{RequestContent}
 use Rattle.dap_search.specs.declared.goal.Goal.{Goal}
 use Rattle.dap_launch.specs.declared.file.FileText.{FileText}
-use Rattle.dap_program.specs.declared.messages.FollowUp.TheVariants.{Stopped}
-use Rattle.dap_program.specs.Messages.{events_of, as_messages}
+use Rattle.dap_run.specs.declared.messages.FollowUp.TheVariants.{Stopped}
+use Rattle.dap_run.specs.Messages.{events_of, as_messages}
 use Rattle.dap_messages.specs.declared.message.Message.{Message}
 use Rattle.dap_session.specs.States.{SessionState}
 use Rattle.dap_session.specs.Turns.{Turn, refusing, succeeding}

@@ -3,7 +3,7 @@ ghost use Rattle.std.specs.Prelude.{◌≡◌, ◌++◌, Option, Some, None, tru
 ghost use Rattle.std.specs.Prelude.{◌||◌, IfOk, OnOk};
 ghost use Rattle.dap_requests.specs.declared.request.RequestContent.{RequestContent};
 ghost use Rattle.dap_launch.specs.declared.file.FileText.{FileText};
-ghost use Rattle.dap_program.specs.declared.messages.RequestId.{RequestId};
+ghost use Rattle.dap_run.specs.declared.messages.RequestId.{RequestId};
 ghost use Rattle.dap_session.specs.States.{SessionState};
 ghost use Rattle.dap_session.specs.Represents.{RepresentsSession};
 ghost use Rattle.dap_session.specs.Laws.{SameParts};

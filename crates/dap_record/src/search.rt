@@ -1,6 +1,6 @@
 //! Parts of a search backward.
 ghost use Rattle.std.specs.Prelude.{◌≡◌, [], ◌∷◌, IfOk};
-ghost use Rattle.dap_program.specs.Messages.{as_messages};
+ghost use Rattle.dap_run.specs.Messages.{as_messages};
 ghost use Rattle.dap_session.specs.States.{SessionState};
 ghost use Rattle.dap_session.specs.Represents.{RepresentsSession};
 ghost use Rattle.dap_record.specs.Recordings.{Recording};
@@ -11,8 +11,8 @@ use crate::recording::RunRecording;
 use base_text::sequence::Sequence;
 use dap_answers::answer::StopReason;
 use dap_messages::message::{EditorEvent, EditorStop, Message};
-use dap_program::messages::Messages;
-use dap_program::slice::met_event;
+use dap_run::messages::Messages;
+use dap_run::slice::met_event;
 use dap_search::goal::Goal;
 use dap_search::search::Search;
 use dap_session::session::Session;

@@ -3,8 +3,8 @@ use Rattle.std.proofs.Common.{◌≡◌, List, Option, Some, ap, subst, sym}
 use Rattle.lab_core.specs.Board.{Board}
 use Rattle.lab_core.specs.Labs.{LabState, RepresentsBoard}
 use Rattle.dap_slice.specs.declared.conditions.ConditionalBreakpoint.{ConditionalBreakpoint}
-use Rattle.dap_launch.specs.declared.program.Program.{Program}
-use Rattle.dap_launch.specs.Programs.{ProgramLists, armed_for, conditional_for}
+use Rattle.dap_run.specs.declared.program.Program.{Program}
+use Rattle.dap_breakpoints.specs.Arming.{ProgramLists, armed_for, conditional_for}
 use Rattle.dap_session.specs.declared.settings.SessionSettings.{SessionSettings}
 use Rattle.dap_session.specs.States.{SessionState, with_board}
 use Rattle.dap_session.specs.Breakpoints.{SetList, armed_where, kept_or, conditional_where}

@@ -27,13 +27,14 @@ use Rattle.dap_requests.specs.declared.request.Launch.{Launch}
 use Rattle.dap_history.specs.declared.input.Input.{Input}
 use Rattle.dap_history.specs.declared.input.Input.TheVariants as input
 use Rattle.dap_history.specs.Runs.{board_of, after_input}
-use Rattle.dap_program.specs.declared.load.LoadFault.{LoadFault}
-use Rattle.dap_program.specs.Boards.{board_after, after, begin_run}
-use Rattle.dap_program.specs.Breakpoints.{board_armed_at}
-use Rattle.dap_program.specs.Loading.{attached_where, board_to_load_on, start_of, with_start, loaded_by}
-use Rattle.dap_program.specs.Loading.{load_result}
-use Rattle.dap_launch.specs.Programs.{ProgramLists, placed_on, with_input}
-use Rattle.dap_launch.specs.declared.program.Program.{Program}
+use Rattle.dap_launch.specs.declared.load.LoadFault.{LoadFault}
+use Rattle.dap_run.specs.Boards.{board_after, after, begin_run}
+use Rattle.dap_breakpoints.specs.Arming.{board_armed_at}
+use Rattle.dap_launch.specs.Loading.{attached_where, board_to_load_on, start_of, with_start, loaded_by}
+use Rattle.dap_launch.specs.Loading.{load_result}
+use Rattle.dap_breakpoints.specs.Arming.{ProgramLists, placed_on}
+use Rattle.dap_launch.specs.Programs.{with_input}
+use Rattle.dap_run.specs.declared.program.Program.{Program}
 use Rattle.dap_session.specs.Breakpoints.{armed_where}
 
 -- the run is the same, and so is the attachment

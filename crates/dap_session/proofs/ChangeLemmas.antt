@@ -51,23 +51,23 @@ use Rattle.dap_prompt.specs.declared.answer.VariablesAnswer.{VariablesAnswer}
 use Rattle.dap_prompt.specs.declared.answer.VariablesAnswer.TheVariants.{Outcome, Change}
 use Rattle.dap_prompt.specs.Answers.{variables_answer}
 use Rattle.dap_points.specs.Points.{has_place}
-use Rattle.dap_program.specs.declared.messages.FollowUp.{FollowUp}
-use Rattle.dap_program.specs.declared.messages.FollowUp.TheVariants as follow
-use Rattle.dap_program.specs.Boards.{board_after}
-use Rattle.dap_program.specs.Breakpoints.{board_armed_at}
-use Rattle.dap_program.specs.Ends.{exit_code}
+use Rattle.dap_run.specs.declared.messages.FollowUp.{FollowUp}
+use Rattle.dap_run.specs.declared.messages.FollowUp.TheVariants as follow
+use Rattle.dap_run.specs.Boards.{board_after}
+use Rattle.dap_breakpoints.specs.Arming.{board_armed_at}
+use Rattle.dap_run.specs.Ends.{exit_code}
 use Rattle.dap_values.specs.Distances.{address_at}
-use Rattle.dap_program.specs.Messages.{event_if, events_of}
+use Rattle.dap_run.specs.Messages.{event_if, events_of}
 use Rattle.dap_launch.specs.declared.file.FileText.{FileText}
-use Rattle.dap_launch.specs.declared.program.Phase.{Phase}
-use Rattle.dap_launch.specs.declared.program.Phase.TheVariants as phase
-use Rattle.dap_launch.specs.declared.program.Program.{Program}
-use Rattle.dap_launch.specs.Lives.{in_phase, is_live, end_of, exception_of}
-use Rattle.dap_launch.specs.Programs.{ProgramLists, placed_on}
+use Rattle.dap_run.specs.declared.program.Phase.{Phase}
+use Rattle.dap_run.specs.declared.program.Phase.TheVariants as phase
+use Rattle.dap_run.specs.declared.program.Program.{Program}
+use Rattle.dap_run.specs.Lives.{in_phase, is_live, end_of, exception_of}
+use Rattle.dap_breakpoints.specs.Arming.{ProgramLists, placed_on}
 use Rattle.dap_session.specs.States.{SessionState}
 use Rattle.dap_session.proofs.ShownLemmas.{handled_shown}
 use Rattle.dap_session.specs.Turns.{Replied, change_follow}
-use Rattle.dap_launch.specs.Programs.{program_at}
+use Rattle.dap_run.specs.Programs.{program_at}
 use Rattle.dap_session.specs.Breakpoints.{armed_where}
 use Rattle.dap_session.specs.Evaluations.{command_reply}
 use Rattle.dap_prompt.specs.Prompt.{behind, byte_spelled, byte_command, command_with}

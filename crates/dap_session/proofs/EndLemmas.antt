@@ -14,17 +14,17 @@ use Rattle.dap_talk.specs.declared.command.DapCommand.TheVariants as command
 use Rattle.dap_board.specs.Commands.{command_result}
 use Rattle.dap_messages.specs.declared.message.EditorEvent.{EditorEvent}
 use Rattle.dap_requests.specs.declared.request.RequestContent.TheVariants as asked
-use Rattle.dap_program.specs.declared.end.EndPolicy.{EndPolicy}
-use Rattle.dap_program.specs.declared.end.EndPolicy.TheVariants.{Exit, Hold}
-use Rattle.dap_program.specs.declared.messages.FollowUp.TheVariants as follow
-use Rattle.dap_program.specs.Ends.{exit_code, policy_at, left_at_end}
-use Rattle.dap_program.specs.Messages.{as_messages, end_events, events_of}
-use Rattle.dap_program.specs.Slices.{log_events, console_events, line_events, exception_events, policy_events}
+use Rattle.dap_run.specs.declared.end.EndPolicy.{EndPolicy}
+use Rattle.dap_run.specs.declared.end.EndPolicy.TheVariants.{Exit, Hold}
+use Rattle.dap_run.specs.declared.messages.FollowUp.TheVariants as follow
+use Rattle.dap_run.specs.Ends.{exit_code, policy_at, left_at_end}
+use Rattle.dap_run.specs.Messages.{as_messages, end_events, events_of}
+use Rattle.dap_run.specs.Slices.{log_events, console_events, line_events, exception_events, policy_events}
 use Rattle.dap_slice.specs.Logs.{logs_before}
-use Rattle.dap_program.specs.Slices.{asks_line}
-use Rattle.dap_program.proofs.SliceLemmas.{told-append}
-use Rattle.dap_launch.specs.declared.program.Program.{Program}
-use Rattle.dap_launch.specs.Lives.{held_for, policy_of, ended_phase, ended_program, end_in, end_of}
+use Rattle.dap_run.specs.Slices.{asks_line}
+use Rattle.dap_run.proofs.SliceLemmas.{told-append}
+use Rattle.dap_run.specs.declared.program.Program.{Program}
+use Rattle.dap_run.specs.Lives.{held_for, policy_of, ended_phase, ended_program, end_in, end_of}
 use Rattle.dap_requests.specs.declared.request.ExceptionFilters.{ExceptionFilters}
 use Rattle.lab_core.specs.declared.answer.End.TheVariants as end
 use Rattle.dap_session.specs.States.{SessionState, wants_slice}

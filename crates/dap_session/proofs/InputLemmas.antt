@@ -49,18 +49,18 @@ use Rattle.dap_prompt.specs.declared.answer.VariablesAnswer.{VariablesAnswer}
 use Rattle.dap_prompt.specs.declared.answer.VariablesAnswer.TheVariants.{Outcome, Change}
 use Rattle.dap_prompt.specs.Answers.{change_in, value_set, variables_answer}
 use Rattle.dap_points.specs.Points.{has_place}
-use Rattle.dap_program.specs.declared.messages.FollowUp.{FollowUp}
-use Rattle.dap_program.specs.declared.messages.FollowUp.TheVariants as follow
-use Rattle.dap_program.specs.Ends.{exit_code}
+use Rattle.dap_run.specs.declared.messages.FollowUp.{FollowUp}
+use Rattle.dap_run.specs.declared.messages.FollowUp.TheVariants as follow
+use Rattle.dap_run.specs.Ends.{exit_code}
 use Rattle.dap_values.specs.Distances.{address_at}
 use Rattle.dap_launch.specs.declared.file.FileText.{FileText}
-use Rattle.dap_launch.specs.declared.program.Phase.{Phase}
-use Rattle.dap_launch.specs.declared.program.Phase.TheVariants as phase
-use Rattle.dap_launch.specs.declared.program.Program.{Program}
-use Rattle.dap_launch.specs.Lives.{in_phase, end_of, exception_of}
+use Rattle.dap_run.specs.declared.program.Phase.{Phase}
+use Rattle.dap_run.specs.declared.program.Phase.TheVariants as phase
+use Rattle.dap_run.specs.declared.program.Program.{Program}
+use Rattle.dap_run.specs.Lives.{in_phase, end_of, exception_of}
 use Rattle.dap_session.specs.States.{SessionState}
 use Rattle.dap_session.specs.Turns.{Turn, Replied, turn_of, change_follow}
-use Rattle.dap_launch.specs.Programs.{program_at}
+use Rattle.dap_run.specs.Programs.{program_at}
 use Rattle.dap_session.specs.Evaluations.{command_reply}
 use Rattle.dap_prompt.specs.Prompt.{behind, byte_spelled, byte_command, command_with}
 use Rattle.dap_session.specs.Evaluations.{prompting, evaluating, setting, handling_by, handling}

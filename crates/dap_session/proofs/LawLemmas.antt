@@ -25,17 +25,17 @@ use Rattle.dap_requests.specs.declared.request.RequestContent.TheVariants as ask
 use Rattle.dap_requests.specs.declared.request.EditorCommand.TheVariants as editor
 use Rattle.dap_requests.specs.declared.request.EvaluateContext.TheVariants as context
 use Rattle.dap_requests.specs.declared.request.Launch.{Launch as LaunchOf}
-use Rattle.dap_program.specs.declared.load.LoadFault.{LoadFault}
-use Rattle.dap_program.specs.declared.load.LoadFault.TheVariants as fault
-use Rattle.dap_program.specs.declared.messages.FollowUp.{FollowUp}
-use Rattle.dap_program.specs.declared.messages.FollowUp.TheVariants as follow
-use Rattle.dap_program.specs.declared.opening.LoadReason.{LoadReason}
-use Rattle.dap_program.specs.declared.opening.LoadReason.TheVariants.{Launch, Restart}
-use Rattle.dap_program.specs.Failures.{load_event}
-use Rattle.dap_program.specs.Loading.{load_result}
-use Rattle.dap_program.specs.Openings.{changed_events, first_events, opening_events}
+use Rattle.dap_launch.specs.declared.load.LoadFault.{LoadFault}
+use Rattle.dap_launch.specs.declared.load.LoadFault.TheVariants as fault
+use Rattle.dap_run.specs.declared.messages.FollowUp.{FollowUp}
+use Rattle.dap_run.specs.declared.messages.FollowUp.TheVariants as follow
+use Rattle.dap_launch.specs.declared.opening.LoadReason.{LoadReason}
+use Rattle.dap_launch.specs.declared.opening.LoadReason.TheVariants.{Launch, Restart}
+use Rattle.dap_launch.specs.Failures.{load_event}
+use Rattle.dap_launch.specs.Loading.{load_result}
+use Rattle.dap_launch.specs.Openings.{changed_events, first_events, opening_events}
 use Rattle.dap_messages.specs.declared.message.EditorEvent.TheVariants as unasked
-use Rattle.dap_program.specs.Messages.{as_messages, event_if, events_of}
+use Rattle.dap_run.specs.Messages.{as_messages, event_if, events_of}
 use Rattle.dap_session.specs.Slices.{slice_end_in}
 use Rattle.i80_devs.specs.Console.{written_to_console}
 use Rattle.dap_slice.specs.declared.logs.LogLine.{LogLine}
@@ -43,21 +43,21 @@ use Rattle.dap_slice.specs.Logs.{logs_before}
 use Rattle.dap_slice.specs.SliceEnds.{change_after, ids_after}
 use Rattle.lab_core.specs.declared.answer.Stop.{Stop}
 use Rattle.lab_core.specs.declared.answer.Stop.TheVariants as stop
-use Rattle.dap_program.specs.Slices.{events_to, log_events, console_events, line_events, outcome_events}
-use Rattle.dap_program.specs.Slices.{stop_event}
-use Rattle.dap_program.specs.Slices.{run_end_events, asks_line}
-use Rattle.dap_program.proofs.SliceLemmas.{told-append}
+use Rattle.dap_run.specs.Slices.{events_to, log_events, console_events, line_events, outcome_events}
+use Rattle.dap_run.specs.Slices.{stop_event}
+use Rattle.dap_run.specs.Slices.{run_end_events, asks_line}
+use Rattle.dap_run.proofs.SliceLemmas.{told-append}
 use Rattle.dap_launch.specs.declared.file.FileText.{FileText}
-use Rattle.dap_launch.specs.declared.program.Program.{Program}
+use Rattle.dap_run.specs.declared.program.Program.{Program}
 use Rattle.dap_session.specs.States.{SessionState, wants_slice}
-use Rattle.dap_program.specs.declared.end.EndPolicy.{EndPolicy}
-use Rattle.dap_program.specs.declared.end.EndPolicy.TheVariants.{Exit, Hold}
+use Rattle.dap_run.specs.declared.end.EndPolicy.{EndPolicy}
+use Rattle.dap_run.specs.declared.end.EndPolicy.TheVariants.{Exit, Hold}
 use Rattle.dap_launch.specs.Files.{program_text}
-use Rattle.dap_launch.specs.Lives.{held_ends}
-use Rattle.dap_program.specs.Ends.{policy_at}
+use Rattle.dap_run.specs.Lives.{held_ends}
+use Rattle.dap_run.specs.Ends.{policy_at}
 use Rattle.dap_requests.specs.declared.request.ExceptionFilters.{ExceptionFilters}
-use Rattle.dap_launch.specs.Programs.{program_of}
-use Rattle.dap_launch.specs.Points.{all_changed}
+use Rattle.dap_run.specs.Programs.{program_of}
+use Rattle.dap_breakpoints.specs.Reports.{all_changed}
 use Rattle.dap_session.specs.Launches.{started_follow, by_text, loading, loading_as, launching_over}
 use Rattle.dap_session.specs.Launches.{restarting_of}
 use Rattle.dap_session.specs.Requests.{objection, asking, asking_unless, replying, turn}

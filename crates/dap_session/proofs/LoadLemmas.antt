@@ -6,12 +6,12 @@ use Rattle.lab_core.specs.Board.{Board}
 use Rattle.lab_core.specs.Labs.{RepresentsBoard}
 use Rattle.dap_messages.specs.declared.message.Message.{Message}
 use Rattle.dap_requests.specs.declared.request.Launch.{Launch as LaunchOf}
-use Rattle.dap_launch.specs.Programs.{program_of}
-use Rattle.dap_program.specs.declared.load.Loaded.{Loaded}
-use Rattle.dap_program.specs.declared.load.LoadFault.{LoadFault}
-use Rattle.dap_program.specs.declared.messages.RequestId.{RequestId}
-use Rattle.dap_program.specs.declared.opening.LoadReason.{LoadReason}
-use Rattle.dap_program.specs.Loading.{Loads}
+use Rattle.dap_run.specs.Programs.{program_of}
+use Rattle.dap_launch.specs.declared.load.Loaded.{Loaded}
+use Rattle.dap_launch.specs.declared.load.LoadFault.{LoadFault}
+use Rattle.dap_run.specs.declared.messages.RequestId.{RequestId}
+use Rattle.dap_launch.specs.declared.opening.LoadReason.{LoadReason}
+use Rattle.dap_launch.specs.Loading.{Loads}
 use Rattle.dap_session.specs.Launches.{installing, loading_as}
 use Rattle.dap_session.specs.Represents.{SessionFields, Tells}
 use Rattle.dap_session.specs.Slices.{told_in}

@@ -24,19 +24,19 @@ use Rattle.dap_prompt.specs.declared.answer.VariablesAnswer.{VariablesAnswer}
 use Rattle.dap_prompt.specs.declared.answer.VariablesAnswer.TheVariants.{Outcome, Change}
 use Rattle.dap_prompt.specs.Answers.{variables_answer}
 use Rattle.dap_points.specs.Points.{has_place}
-use Rattle.dap_program.specs.declared.load.LoadFault.{LoadFault}
-use Rattle.dap_program.specs.declared.messages.FollowUp.{FollowUp}
-use Rattle.dap_program.specs.declared.opening.LoadReason.{LoadReason}
-use Rattle.dap_program.specs.declared.opening.LoadReason.TheVariants.{Launch, Restart}
-use Rattle.dap_program.specs.Ends.{exit_code}
-use Rattle.dap_program.specs.Loading.{load_result}
+use Rattle.dap_launch.specs.declared.load.LoadFault.{LoadFault}
+use Rattle.dap_run.specs.declared.messages.FollowUp.{FollowUp}
+use Rattle.dap_launch.specs.declared.opening.LoadReason.{LoadReason}
+use Rattle.dap_launch.specs.declared.opening.LoadReason.TheVariants.{Launch, Restart}
+use Rattle.dap_run.specs.Ends.{exit_code}
+use Rattle.dap_launch.specs.Loading.{load_result}
 use Rattle.dap_values.specs.Distances.{address_at}
 use Rattle.dap_launch.specs.declared.file.FileText.{FileText}
-use Rattle.dap_launch.specs.declared.program.Phase.{Phase}
-use Rattle.dap_launch.specs.declared.program.Phase.TheVariants as phase
-use Rattle.dap_launch.specs.declared.program.Program.{Program}
+use Rattle.dap_run.specs.declared.program.Phase.{Phase}
+use Rattle.dap_run.specs.declared.program.Phase.TheVariants as phase
+use Rattle.dap_run.specs.declared.program.Program.{Program}
 use Rattle.dap_launch.specs.Files.{program_text}
-use Rattle.dap_launch.specs.Lives.{end_of, exception_of}
+use Rattle.dap_run.specs.Lives.{end_of, exception_of}
 use Rattle.dap_session.specs.States.{SessionState}
 use Rattle.dap_session.specs.Turns.{Replied, Turn}
 use Rattle.dap_session.specs.Breakpoints.{setting_lines}

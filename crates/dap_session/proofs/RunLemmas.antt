@@ -8,13 +8,13 @@ use Rattle.lab_core.specs.declared.run_state.RunState.TheVariants.{NoRun}
 use Rattle.lab_core.specs.Board.{Board}
 use Rattle.dap_messages.specs.declared.message.EditorEvent.{EditorEvent}
 use Rattle.dap_messages.specs.declared.message.Message.{Message}
-use Rattle.dap_program.specs.declared.messages.FollowUp.TheVariants as follow
-use Rattle.dap_program.specs.Messages.{as_messages, events_of}
-use Rattle.dap_program.proofs.SliceLemmas.{told-append}
-use Rattle.dap_launch.specs.declared.program.Phase.{Phase}
-use Rattle.dap_launch.specs.declared.program.Phase.TheVariants as phase
-use Rattle.dap_launch.specs.declared.program.Program.{Program}
-use Rattle.dap_launch.specs.Lives.{in_phase, is_over, is_live}
+use Rattle.dap_run.specs.declared.messages.FollowUp.TheVariants as follow
+use Rattle.dap_run.specs.Messages.{as_messages, events_of}
+use Rattle.dap_run.proofs.SliceLemmas.{told-append}
+use Rattle.dap_run.specs.declared.program.Phase.{Phase}
+use Rattle.dap_run.specs.declared.program.Phase.TheVariants as phase
+use Rattle.dap_run.specs.declared.program.Program.{Program}
+use Rattle.dap_run.specs.Lives.{in_phase, is_over, is_live}
 use Rattle.dap_session.specs.States.{SessionState, with_board}
 use Rattle.dap_session.specs.Laws.{Shown, shown_after, shown_for, ends_in, ends_told, ends_between, has_run}
 use Rattle.dap_session.specs.Laws.{is_begun, has_begun}

@@ -1,9 +1,9 @@
 -- The beginning of a program, before and after the configuration is done.
 use Rattle.std.proofs.Common.{◌≡◌, Option, Some, None, true, refl, sym, ap, subst}
-use Rattle.dap_launch.specs.declared.program.Phase.{Phase}
-use Rattle.dap_launch.specs.declared.program.Phase.TheVariants.{Loaded, Begun, Held, Over}
-use Rattle.dap_launch.specs.declared.program.Program.{Program}
-use Rattle.dap_launch.specs.declared.reply.Reply.{Reply}
+use Rattle.dap_run.specs.declared.program.Phase.{Phase}
+use Rattle.dap_run.specs.declared.program.Phase.TheVariants.{Loaded, Begun, Held, Over}
+use Rattle.dap_run.specs.declared.program.Program.{Program}
+use Rattle.dap_run.specs.declared.reply.Reply.{Reply}
 use Rattle.dap_session.specs.declared.settings.SessionSettings.{SessionSettings}
 use Rattle.dap_session.specs.States.{SessionState}
 use Rattle.dap_session.specs.Turns.{Replied}

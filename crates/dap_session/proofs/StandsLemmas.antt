@@ -12,17 +12,17 @@ use Rattle.dap_slice.specs.declared.conditions.ConditionalBreakpoint.{Conditiona
 use Rattle.dap_slice.specs.SliceEnds.{slice_end_within}
 use Rattle.dap_answers.specs.declared.answer.Body.{Body}
 use Rattle.dap_board.specs.Commands.{Performed, Performs}
-use Rattle.dap_program.specs.Boards.{RepresentsSomeBoard}
-use Rattle.dap_program.specs.declared.slice.Slice.{Slice}
+use Rattle.dap_run.specs.Boards.{RepresentsSomeBoard}
+use Rattle.dap_run.specs.declared.slice.Slice.{Slice}
 use Rattle.dap_requests.specs.declared.request.ExceptionFilters.{ExceptionFilters}
-use Rattle.dap_program.specs.Ends.{held_at_end}
-use Rattle.dap_program.specs.Slices.{IsSliceOf}
+use Rattle.dap_run.specs.Ends.{held_at_end}
+use Rattle.dap_run.specs.Slices.{IsSliceOf}
 use Rattle.dap_messages.specs.declared.message.EditorBody.TheVariants.{Board as OfBoard}
 use Rattle.dap_messages.specs.declared.message.EditorOutcome.TheVariants.{Success}
-use Rattle.dap_program.specs.declared.messages.FollowUp.TheVariants.{Ended}
-use Rattle.dap_program.specs.Boards.{after}
+use Rattle.dap_run.specs.declared.messages.FollowUp.TheVariants.{Ended}
+use Rattle.dap_run.specs.Boards.{after}
 use Rattle.lab_core.specs.declared.event.Event.TheVariants.{Interrupt}
-use Rattle.dap_launch.specs.declared.reply.Reply.{Reply}
+use Rattle.dap_run.specs.declared.reply.Reply.{Reply}
 use Rattle.dap_session.specs.Requests.{finish_done}
 use Rattle.dap_session.specs.States.{SessionState, with_board, program_over, is_running, wants_slice}
 use Rattle.dap_session.specs.Represents.{SessionFields, RepresentsSession, Replies}

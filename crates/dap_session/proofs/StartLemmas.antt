@@ -14,28 +14,30 @@ use Rattle.dap_messages.specs.declared.message.EditorEvent.TheVariants as unaske
 use Rattle.dap_messages.specs.declared.message.EditorStop.TheVariants.{Entry}
 use Rattle.dap_messages.specs.declared.message.PlacedBreakpoint.{PlacedBreakpoint}
 use Rattle.dap_requests.specs.declared.request.Launch.{Launch as LaunchOf}
-use Rattle.dap_program.specs.declared.load.LoadFault.{LoadFault}
-use Rattle.dap_program.specs.declared.load.LoadFault.TheVariants as fault
-use Rattle.dap_program.specs.declared.messages.FollowUp.{FollowUp}
-use Rattle.dap_program.specs.declared.messages.FollowUp.TheVariants as follow
-use Rattle.dap_program.specs.declared.opening.LoadReason.{LoadReason}
-use Rattle.dap_program.specs.declared.opening.LoadReason.TheVariants.{Launch, Restart}
-use Rattle.dap_program.specs.Boards.{begin_run}
-use Rattle.dap_program.specs.Failures.{load_event}
-use Rattle.dap_program.specs.Loading.{load_result}
-use Rattle.dap_program.specs.Messages.{as_messages, events_of}
-use Rattle.dap_program.specs.Openings.{changed_events, first_events}
+use Rattle.dap_launch.specs.declared.load.LoadFault.{LoadFault}
+use Rattle.dap_launch.specs.declared.load.LoadFault.TheVariants as fault
+use Rattle.dap_run.specs.declared.messages.FollowUp.{FollowUp}
+use Rattle.dap_run.specs.declared.messages.FollowUp.TheVariants as follow
+use Rattle.dap_launch.specs.declared.opening.LoadReason.{LoadReason}
+use Rattle.dap_launch.specs.declared.opening.LoadReason.TheVariants.{Launch, Restart}
+use Rattle.dap_run.specs.Boards.{begin_run}
+use Rattle.dap_launch.specs.Failures.{load_event}
+use Rattle.dap_launch.specs.Loading.{load_result}
+use Rattle.dap_run.specs.Messages.{as_messages, events_of}
+use Rattle.dap_launch.specs.Openings.{changed_events, first_events}
 use Rattle.dap_launch.specs.declared.file.FileText.{FileText}
-use Rattle.dap_launch.specs.declared.program.Phase.{Phase}
-use Rattle.dap_launch.specs.declared.program.Phase.TheVariants as phase
-use Rattle.dap_launch.specs.declared.program.Program.{Program}
+use Rattle.dap_run.specs.declared.program.Phase.{Phase}
+use Rattle.dap_run.specs.declared.program.Phase.TheVariants as phase
+use Rattle.dap_run.specs.declared.program.Program.{Program}
 use Rattle.dap_session.specs.States.{SessionState, with_board, with_program}
 use Rattle.dap_session.specs.Turns.{Turn}
 use Rattle.dap_launch.specs.Files.{program_text}
-use Rattle.dap_launch.specs.Lives.{in_phase, is_over, is_live}
-use Rattle.dap_launch.specs.Programs.{pauses, going_follow, begun_follow, program_of}
-use Rattle.dap_launch.specs.Points.{all_changed}
-use Rattle.dap_launch.specs.Programs.{program_board, program_lists, placed_on, with_input, begun_if, board_if}
+use Rattle.dap_run.specs.Lives.{in_phase, is_over, is_live}
+use Rattle.dap_launch.specs.Programs.{pauses, going_follow, begun_follow}
+use Rattle.dap_run.specs.Programs.{program_of}
+use Rattle.dap_breakpoints.specs.Reports.{all_changed}
+use Rattle.dap_breakpoints.specs.Arming.{program_board, program_lists, placed_on}
+use Rattle.dap_launch.specs.Programs.{with_input, begun_if, board_if}
 use Rattle.dap_session.specs.Launches.{installing, beginning_in, beginning_where, started_follow}
 use Rattle.dap_session.specs.Launches.{loading_as, by_text, loading, launching_over, restarting_of}
 use Rattle.dap_session.specs.Requests.{set_configured}

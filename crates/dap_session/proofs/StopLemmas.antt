@@ -34,26 +34,26 @@ use Rattle.dap_requests.specs.declared.request.RequestContent.{RequestContent}
 use Rattle.dap_requests.specs.declared.request.RequestContent.TheVariants as asked
 use Rattle.dap_requests.specs.declared.request.EditorCommand.{EditorCommand}
 use Rattle.dap_requests.specs.declared.request.EditorCommand.TheVariants as editor
-use Rattle.dap_program.specs.Messages.{as_messages}
-use Rattle.dap_program.specs.Slices.{log_events, console_events, line_events, outcome_events, run_end_events}
-use Rattle.dap_program.specs.Slices.{stop_event}
+use Rattle.dap_run.specs.Messages.{as_messages}
+use Rattle.dap_run.specs.Slices.{log_events, console_events, line_events, outcome_events, run_end_events}
+use Rattle.dap_run.specs.Slices.{stop_event}
 use Rattle.dap_slice.specs.declared.logs.LogLine.{LogLine}
 use Rattle.dap_slice.specs.Logs.{logs_before}
 use Rattle.dap_slice.specs.SliceEnds.{change_after, ids_after}
-use Rattle.dap_program.specs.Slices.{asks_line}
+use Rattle.dap_run.specs.Slices.{asks_line}
 use Rattle.dap_messages.specs.declared.message.UndefinedOpcode.{UndefinedOpcode}
 use Rattle.dap_requests.specs.declared.request.Launch.{Launch as LaunchOf}
-use Rattle.dap_program.specs.declared.end.EndPolicy.{EndPolicy}
-use Rattle.dap_program.specs.declared.end.EndPolicy.TheVariants.{Exit, Hold}
-use Rattle.dap_program.specs.Ends.{exit_code, policy_at, left_at_end, held_at_end}
+use Rattle.dap_run.specs.declared.end.EndPolicy.{EndPolicy}
+use Rattle.dap_run.specs.declared.end.EndPolicy.TheVariants.{Exit, Hold}
+use Rattle.dap_run.specs.Ends.{exit_code, policy_at, left_at_end, held_at_end}
 use Rattle.dap_requests.specs.declared.request.ExceptionFilters.{ExceptionFilters}
 use Rattle.dap_launch.specs.declared.file.FileText.{FileText}
-use Rattle.dap_launch.specs.declared.program.Phase.{Phase}
-use Rattle.dap_launch.specs.declared.program.Phase.TheVariants as phase
-use Rattle.dap_launch.specs.declared.program.Program.{Program}
-use Rattle.dap_launch.specs.Lives.{in_phase, is_live, held_for, held_ends, policy_of, ended_phase}
-use Rattle.dap_launch.specs.Lives.{ended_program}
-use Rattle.dap_launch.specs.Lives.{end_of, exception_of}
+use Rattle.dap_run.specs.declared.program.Phase.{Phase}
+use Rattle.dap_run.specs.declared.program.Phase.TheVariants as phase
+use Rattle.dap_run.specs.declared.program.Program.{Program}
+use Rattle.dap_run.specs.Lives.{in_phase, is_live, held_for, held_ends, policy_of, ended_phase}
+use Rattle.dap_run.specs.Lives.{ended_program}
+use Rattle.dap_run.specs.Lives.{end_of, exception_of}
 use Rattle.lab_shown.specs.declared.step.StepKind.{StepKind}
 use Rattle.lab_shown.specs.declared.step.Granularity.{Granularity}
 use Rattle.dap_session.specs.States.{SessionState, no_events, session_before_requests, with_board}

@@ -35,22 +35,22 @@ use Rattle.dap_prompt.specs.declared.answer.VariablesAnswer.{VariablesAnswer}
 use Rattle.dap_prompt.specs.declared.answer.VariablesAnswer.TheVariants.{Outcome, Change}
 use Rattle.dap_prompt.specs.Answers.{variables_answer}
 use Rattle.dap_points.specs.Points.{has_place}
-use Rattle.dap_program.specs.declared.messages.FollowUp.TheVariants as follow
-use Rattle.dap_program.specs.Boards.{after}
-use Rattle.dap_program.specs.Boards.{after_goto}
+use Rattle.dap_run.specs.declared.messages.FollowUp.TheVariants as follow
+use Rattle.dap_run.specs.Boards.{after}
+use Rattle.dap_run.specs.Boards.{after_goto}
 use Rattle.dap_values.specs.Distances.{address_at}
-use Rattle.dap_program.specs.Refusals.{board_refusal}
+use Rattle.dap_run.specs.Refusals.{board_refusal}
 use Rattle.lab_core.specs.declared.fault.EventFault.TheVariants.{NotStopped}
 use Rattle.lab_core.specs.Changes.{after_write}
-use Rattle.dap_launch.specs.declared.program.Phase.{Phase}
-use Rattle.dap_launch.specs.declared.program.Phase.TheVariants as phase
-use Rattle.dap_launch.specs.declared.program.Program.{Program}
-use Rattle.dap_launch.specs.Lives.{is_over, is_live, released_phase, released_program}
+use Rattle.dap_run.specs.declared.program.Phase.{Phase}
+use Rattle.dap_run.specs.declared.program.Phase.TheVariants as phase
+use Rattle.dap_run.specs.declared.program.Program.{Program}
+use Rattle.dap_run.specs.Lives.{is_over, is_live, released_phase, released_program}
 use Rattle.dap_messages.specs.declared.message.EditorEvent.TheVariants as event_told
-use Rattle.dap_program.specs.Messages.{as_messages, event_if, change_events, events_of}
+use Rattle.dap_run.specs.Messages.{as_messages, event_if, change_events, events_of}
 use Rattle.dap_session.specs.States.{SessionState, with_board, program_over, program_released}
 use Rattle.dap_session.specs.Turns.{Replied, change_follow, refusing, accepting}
-use Rattle.dap_launch.specs.Programs.{program_at}
+use Rattle.dap_run.specs.Programs.{program_at}
 use Rattle.dap_session.specs.Breakpoints.{setting_lines, setting_functions}
 use Rattle.dap_session.specs.Evaluations.{command_reply}
 use Rattle.dap_prompt.specs.Prompt.{behind, byte_spelled, byte_command, command_with}

@@ -14,12 +14,13 @@ use Rattle.dap_points.specs.declared.points.SourceLines.{SourceLines}
 use Rattle.dap_points.specs.Points.{WantedBreakpointsState, number_of, has_place, with_lines}
 use Rattle.dap_slice.specs.declared.conditions.ConditionalBreakpoint.{ConditionalBreakpoint}
 use Rattle.dap_slice.specs.Counts.{with_counts}
-use Rattle.dap_program.specs.declared.messages.FollowUp.TheVariants.{Nothing}
+use Rattle.dap_run.specs.declared.messages.FollowUp.TheVariants.{Nothing}
 use Rattle.dap_disassembly.specs.CodeLines.{locations}
-use Rattle.dap_data.specs.Info.{data_info}
-use Rattle.dap_launch.specs.declared.program.Program.{Program}
-use Rattle.dap_launch.specs.Programs.{ProgramLists, program_at, program_lists, armed_for, conditional_for}
-use Rattle.dap_launch.specs.Points.{points_where, labels_where, data_where, instructions_where}
+use Rattle.dap_breakpoints.specs.Info.{data_info}
+use Rattle.dap_run.specs.declared.program.Program.{Program}
+use Rattle.dap_breakpoints.specs.Arming.{ProgramLists, program_lists, armed_for, conditional_for}
+use Rattle.dap_run.specs.Programs.{program_at}
+use Rattle.dap_breakpoints.specs.Reports.{points_where, labels_where, data_where, instructions_where}
 use Rattle.dap_session.specs.States.{SessionState, with_board, with_points, with_conditional}
 use Rattle.dap_session.specs.Turns.{Replied, refusing, succeeding}
 

@@ -16,8 +16,8 @@ use Rattle.dap_prompt.specs.declared.answer.VariablesAnswer.TheVariants.{Outcome
 use Rattle.dap_prompt.specs.Answers.{evaluation, prompt_evaluation, variables_answer}
 use Rattle.dap_prompt.specs.Answers.{done_value}
 use Rattle.lab_core.specs.declared.fault.EventFault.TheVariants.{NotStopped}
-use Rattle.dap_program.specs.declared.messages.FollowUp.TheVariants.{Nothing}
-use Rattle.dap_program.specs.Refusals.{board_refusal}
+use Rattle.dap_run.specs.declared.messages.FollowUp.TheVariants.{Nothing}
+use Rattle.dap_run.specs.Refusals.{board_refusal}
 use Rattle.dap_prompt.specs.Prompt.{prompt_command}
 use Rattle.dap_prompt.specs.declared.prompt.PromptCommand.{PromptCommand}
 use Rattle.dap_prompt.specs.declared.prompt.PromptCommand.TheVariants as prompt

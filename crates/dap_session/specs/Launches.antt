@@ -5,22 +5,24 @@ use Rattle.base_text.specs.Bytes.{Text}
 use Rattle.lab_core.specs.Board.{Board}
 use Rattle.dap_requests.specs.declared.request.Launch.{Launch as LaunchOf}
 use Rattle.dap_launch.specs.declared.file.FileText.{FileText}
-use Rattle.dap_launch.specs.declared.program.Phase.{Phase}
-use Rattle.dap_launch.specs.declared.program.Phase.TheVariants as phase
-use Rattle.dap_launch.specs.declared.program.Program.{Program}
+use Rattle.dap_run.specs.declared.program.Phase.{Phase}
+use Rattle.dap_run.specs.declared.program.Phase.TheVariants as phase
+use Rattle.dap_run.specs.declared.program.Program.{Program}
 use Rattle.dap_launch.specs.Files.{program_text}
-use Rattle.dap_launch.specs.Lives.{in_phase}
-use Rattle.dap_launch.specs.Programs.{program_of, begun_follow}
-use Rattle.dap_launch.specs.Points.{all_changed}
-use Rattle.dap_launch.specs.Programs.{program_board, program_conditions, begun_board, board_if, begun_if}
-use Rattle.dap_program.specs.declared.load.LoadFault.{LoadFault}
-use Rattle.dap_program.specs.declared.messages.FollowUp.{FollowUp}
-use Rattle.dap_program.specs.declared.messages.FollowUp.TheVariants.{Nothing}
-use Rattle.dap_program.specs.declared.opening.LoadReason.{LoadReason}
-use Rattle.dap_program.specs.declared.opening.LoadReason.TheVariants.{Launch, Restart}
-use Rattle.dap_program.specs.Failures.{load_refusal, load_event}
-use Rattle.dap_program.specs.Loading.{load_result}
-use Rattle.dap_program.specs.Openings.{opening_events, accepted_outcome}
+use Rattle.dap_run.specs.Lives.{in_phase}
+use Rattle.dap_run.specs.Programs.{program_of}
+use Rattle.dap_launch.specs.Programs.{begun_follow}
+use Rattle.dap_breakpoints.specs.Reports.{all_changed}
+use Rattle.dap_breakpoints.specs.Arming.{program_board, program_conditions}
+use Rattle.dap_launch.specs.Programs.{begun_board, board_if, begun_if}
+use Rattle.dap_launch.specs.declared.load.LoadFault.{LoadFault}
+use Rattle.dap_run.specs.declared.messages.FollowUp.{FollowUp}
+use Rattle.dap_run.specs.declared.messages.FollowUp.TheVariants.{Nothing}
+use Rattle.dap_launch.specs.declared.opening.LoadReason.{LoadReason}
+use Rattle.dap_launch.specs.declared.opening.LoadReason.TheVariants.{Launch, Restart}
+use Rattle.dap_launch.specs.Failures.{load_refusal, load_event}
+use Rattle.dap_launch.specs.Loading.{load_result}
+use Rattle.dap_launch.specs.Openings.{opening_events, accepted_outcome}
 use Rattle.dap_session.specs.States.{SessionState, with_board, with_program, with_conditional}
 use Rattle.dap_session.specs.Turns.{Turn, Replied, turn_of, refusing, accepting}
 

@@ -25,17 +25,17 @@ use Rattle.dap_requests.specs.declared.request.RequestContent.TheVariants as ask
 use Rattle.dap_requests.specs.declared.request.EditorCommand.TheVariants as editor
 use Rattle.dap_requests.specs.declared.request.VariablesCommand.{VariablesCommand}
 use Rattle.dap_requests.specs.declared.request.VariablesCommand.TheVariants as variables
-use Rattle.dap_program.specs.declared.messages.RequestId.{RequestId}
-use Rattle.dap_program.specs.declared.end.EndPolicy.TheVariants.{Hold}
-use Rattle.dap_program.specs.Ends.{exit_code}
-use Rattle.dap_program.specs.Messages.{as_messages, end_events}
-use Rattle.dap_program.specs.Slices.{policy_events}
+use Rattle.dap_run.specs.declared.messages.RequestId.{RequestId}
+use Rattle.dap_run.specs.declared.end.EndPolicy.TheVariants.{Hold}
+use Rattle.dap_run.specs.Ends.{exit_code}
+use Rattle.dap_run.specs.Messages.{as_messages, end_events}
+use Rattle.dap_run.specs.Slices.{policy_events}
 use Rattle.dap_session.specs.Slices.{slice_end_in}
 use Rattle.i80_devs.specs.Console.{written_to_console}
-use Rattle.dap_launch.specs.declared.program.Phase.{Phase}
-use Rattle.dap_launch.specs.declared.program.Phase.TheVariants as phase
-use Rattle.dap_launch.specs.declared.program.Program.{Program}
-use Rattle.dap_launch.specs.Lives.{is_live, policy_of}
+use Rattle.dap_run.specs.declared.program.Phase.{Phase}
+use Rattle.dap_run.specs.declared.program.Phase.TheVariants as phase
+use Rattle.dap_run.specs.declared.program.Program.{Program}
+use Rattle.dap_run.specs.Lives.{is_live, policy_of}
 use Rattle.dap_session.specs.States.{SessionState, wants_slice}
 use Rattle.dap_session.specs.Requests.{turn}
 use Rattle.dap_session.specs.Slices.{Told, Input, request, slice, caller_of, step}

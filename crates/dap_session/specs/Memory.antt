@@ -13,7 +13,7 @@ use Rattle.dap_disassembly.specs.Disassembly.{instructions_from}
 use Rattle.dap_values.specs.Memory.{bytes_from}
 use Rattle.dap_disassembly.specs.Instructions.{before_instructions}
 use Rattle.dap_values.specs.Distances.{address_at}
-use Rattle.dap_program.specs.Refusals.{board_refusal}
+use Rattle.dap_run.specs.Refusals.{board_refusal}
 use Rattle.lab_core.specs.declared.fault.EventFault.TheVariants.{NotStopped}
 use Rattle.lab_core.specs.declared.run_state.RunState.{RunState}
 use Rattle.lab_core.specs.declared.run_state.RunState.TheVariants.{NoRun, Running, Stopped}

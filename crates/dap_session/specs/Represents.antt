@@ -5,8 +5,8 @@ use Rattle.lab_core.specs.Labs.{LabState, RepresentsBoard}
 use Rattle.dap_messages.specs.declared.message.Message.{Message}
 use Rattle.dap_session.specs.declared.settings.SessionSettings.{SessionSettings}
 use Rattle.dap_slice.specs.declared.conditions.ConditionalBreakpoint.{ConditionalBreakpoint}
-use Rattle.dap_launch.specs.declared.program.Program.{Program}
-use Rattle.dap_launch.specs.declared.reply.Reply.{Reply}
+use Rattle.dap_run.specs.declared.program.Program.{Program}
+use Rattle.dap_run.specs.declared.reply.Reply.{Reply}
 use Rattle.dap_session.specs.Breakpoints.{SetList, armed_where, kept_or, conditional_where}
 use Rattle.dap_session.specs.States.{SessionState, with_board, wants_slice}
 use Rattle.dap_session.specs.Turns.{Replied}

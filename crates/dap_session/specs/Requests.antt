@@ -20,16 +20,16 @@ use Rattle.dap_requests.specs.declared.request.EditorCommand.{EditorCommand}
 use Rattle.dap_requests.specs.declared.request.EditorCommand.TheVariants as editor
 use Rattle.dap_requests.specs.declared.offset.SignedOffset.{SignedOffset}
 use Rattle.dap_requests.specs.declared.request.SupportedEvents.{SupportedEvents}
-use Rattle.dap_program.specs.declared.messages.FollowUp.{FollowUp}
-use Rattle.dap_program.specs.declared.messages.FollowUp.TheVariants as follow
-use Rattle.dap_program.specs.Boards.{after}
-use Rattle.dap_program.specs.Bounds.{opens, is_bounded}
-use Rattle.dap_program.specs.Ends.{exit_code}
+use Rattle.dap_run.specs.declared.messages.FollowUp.{FollowUp}
+use Rattle.dap_run.specs.declared.messages.FollowUp.TheVariants as follow
+use Rattle.dap_run.specs.Boards.{after}
+use Rattle.dap_run.specs.Bounds.{opens, is_bounded}
+use Rattle.dap_run.specs.Ends.{exit_code}
 use Rattle.dap_values.specs.Distances.{address_at, far_address, wrapped_at}
-use Rattle.dap_program.specs.Refusals.{board_refusal, request_refusal}
+use Rattle.dap_run.specs.Refusals.{board_refusal, request_refusal}
 use Rattle.dap_launch.specs.declared.file.FileText.{FileText}
-use Rattle.dap_launch.specs.declared.program.Program.{Program}
-use Rattle.dap_launch.specs.Lives.{is_live, end_of, exception_of}
+use Rattle.dap_run.specs.declared.program.Program.{Program}
+use Rattle.dap_run.specs.Lives.{is_live, end_of, exception_of}
 use Rattle.dap_prompt.specs.Inputs.{ends_question}
 use Rattle.dap_session.specs.States.{SessionState, no_events, with_board, with_filters, after_answer}
 use Rattle.dap_session.specs.States.{program_over}

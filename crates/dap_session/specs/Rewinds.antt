@@ -7,11 +7,11 @@ use Rattle.dap_history.specs.Histories.{HistoryState, IsHistoryOf, KeepsHistory}
 use Rattle.dap_search.specs.Goals.{Target, goal_below}
 use Rattle.dap_search.specs.Searches.{SearchState, IsSearchOf}
 use Rattle.dap_history.specs.Runs.{board_at, after_rewind}
-use Rattle.dap_launch.specs.declared.program.Program.{Program}
+use Rattle.dap_run.specs.declared.program.Program.{Program}
 use Rattle.dap_slice.specs.declared.conditions.ConditionalBreakpoint.{ConditionalBreakpoint}
 use Rattle.dap_slice.specs.Counts.{without_hits}
 use Rattle.dap_search.specs.Recounts.{without_hits_between}
-use Rattle.dap_launch.specs.Lives.{released_program}
+use Rattle.dap_run.specs.Lives.{released_program}
 use Rattle.dap_session.specs.States.{SessionState, with_board}
 use Rattle.dap_session.specs.Turns.{Turn}
 use Rattle.dap_session.specs.declared.settings.SessionSettings.{SessionSettings}

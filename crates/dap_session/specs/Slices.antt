@@ -6,14 +6,14 @@ use Rattle.lab_core.specs.declared.answer.SliceOutcome.TheVariants as outcome
 use Rattle.lab_core.specs.Slices.{traffic_of, after_steps, left_by}
 use Rattle.dap_messages.specs.declared.message.Message.{Message}
 use Rattle.dap_requests.specs.declared.request.EditorRequest.{EditorRequest}
-use Rattle.dap_program.specs.declared.messages.RequestId.{RequestId}
-use Rattle.dap_program.specs.Messages.{as_messages, turn_messages}
+use Rattle.dap_run.specs.declared.messages.RequestId.{RequestId}
+use Rattle.dap_run.specs.Messages.{as_messages, turn_messages}
 use Rattle.lab_core.specs.Board.{Board}
 use Rattle.dap_slice.specs.Counts.{points_after}
 use Rattle.dap_slice.specs.SliceEnds.{slice_end_within, after_slice_within}
-use Rattle.dap_program.specs.Ends.{held_at_end}
-use Rattle.dap_program.specs.Slices.{SliceContext, events_to, asks_line}
-use Rattle.dap_launch.specs.Lives.{held_ends, ended_program}
+use Rattle.dap_run.specs.Ends.{held_at_end}
+use Rattle.dap_run.specs.Slices.{SliceContext, events_to, asks_line}
+use Rattle.dap_run.specs.Lives.{held_ends, ended_program}
 use Rattle.dap_launch.specs.declared.file.FileText.{FileText}
 use Rattle.dap_session.specs.declared.settings.SessionSettings.{SessionSettings}
 use Rattle.dap_session.specs.States.{SessionState, wants_slice}

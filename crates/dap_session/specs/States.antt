@@ -8,9 +8,9 @@ use Rattle.dap_requests.specs.declared.request.SupportedEvents.{SupportedEvents}
 use Rattle.dap_requests.specs.Filters.{no_filters}
 use Rattle.dap_points.specs.Points.{WantedBreakpointsState, no_points}
 use Rattle.dap_slice.specs.declared.conditions.ConditionalBreakpoint.{ConditionalBreakpoint}
-use Rattle.dap_launch.specs.declared.program.Phase.TheVariants as phase
-use Rattle.dap_launch.specs.declared.program.Program.{Program}
-use Rattle.dap_launch.specs.Lives.{in_phase, released_program}
+use Rattle.dap_run.specs.declared.program.Phase.TheVariants as phase
+use Rattle.dap_run.specs.declared.program.Program.{Program}
+use Rattle.dap_run.specs.Lives.{in_phase, released_program}
 use Rattle.dap_session.specs.declared.settings.SessionSettings.{SessionSettings}
 
 pub record SessionState : Type 0 where

@@ -6,14 +6,14 @@ use Rattle.lab_core.specs.Board.{Board}
 use Rattle.dap_messages.specs.declared.message.EditorBody.TheVariants as body
 use Rattle.dap_messages.specs.declared.message.EditorStop.TheVariants.{Goto}
 use Rattle.dap_messages.specs.declared.message.GotoTarget.{GotoTarget}
-use Rattle.dap_program.specs.declared.messages.FollowUp.TheVariants.{Nothing, Stopped}
-use Rattle.dap_program.specs.Boards.{after_goto}
-use Rattle.dap_program.specs.Refusals.{board_refusal}
+use Rattle.dap_run.specs.declared.messages.FollowUp.TheVariants.{Nothing, Stopped}
+use Rattle.dap_run.specs.Boards.{after_goto}
+use Rattle.dap_run.specs.Refusals.{board_refusal}
 use Rattle.dap_disassembly.specs.Targets.{first_target}
-use Rattle.dap_launch.specs.declared.program.Program.{Program}
+use Rattle.dap_run.specs.declared.program.Program.{Program}
 use Rattle.dap_session.specs.States.{SessionState, with_board, program_released}
 use Rattle.dap_session.specs.Turns.{Replied, refusing, succeeding, accepting}
-use Rattle.dap_launch.specs.Programs.{program_at}
+use Rattle.dap_run.specs.Programs.{program_at}
 use Rattle.dap_session.specs.Memory.{is_stopped}
 
 -- only in the program

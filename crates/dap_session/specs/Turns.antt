@@ -7,10 +7,10 @@ use Rattle.dap_messages.specs.declared.message.EditorBody.TheVariants as body
 use Rattle.dap_messages.specs.declared.message.EditorEvent.{EditorEvent}
 use Rattle.dap_messages.specs.declared.message.EditorOutcome.{EditorOutcome}
 use Rattle.dap_messages.specs.declared.message.EditorOutcome.TheVariants as outcome
-use Rattle.dap_program.specs.declared.messages.FollowUp.{FollowUp}
-use Rattle.dap_program.specs.declared.messages.FollowUp.TheVariants.{Nothing, Changed}
-use Rattle.dap_program.specs.Messages.{events_of}
-use Rattle.dap_launch.specs.Lives.{is_live}
+use Rattle.dap_run.specs.declared.messages.FollowUp.{FollowUp}
+use Rattle.dap_run.specs.declared.messages.FollowUp.TheVariants.{Nothing, Changed}
+use Rattle.dap_run.specs.Messages.{events_of}
+use Rattle.dap_run.specs.Lives.{is_live}
 use Rattle.dap_session.specs.States.{SessionState}
 
 pub record Turn : Type 0 where

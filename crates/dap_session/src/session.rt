@@ -1,6 +1,6 @@
 //! The session.
 ghost use Rattle.std.specs.Prelude.{◌≡◌, true, IfOk, option_map};
-ghost use Rattle.dap_program.specs.Bounds.{is_bounded};
+ghost use Rattle.dap_run.specs.Bounds.{is_bounded};
 ghost use Rattle.dap_session.specs.States as states;
 ghost use Rattle.dap_session.specs.States.{SessionState, session_before_requests};
 ghost use Rattle.dap_session.specs.Turns.{turn_of, refusing};
@@ -23,13 +23,13 @@ mod targets;
 use crate::settings::{NO_EVENTS, SessionSettings};
 use base_text::sequence::Sequence;
 use dap_launch::file::FileText;
-use dap_launch::life::NO_FILTERS;
-use dap_launch::reply::{Reply, refuse};
 use dap_messages::message::Message;
 use dap_points::points::WantedBreakpoints;
-use dap_program::messages::{Messages, RequestId};
 use dap_prompt::inputs::ends_question;
 use dap_requests::request::{EditorCommand, EditorRequest, RequestContent};
+use dap_run::life::NO_FILTERS;
+use dap_run::messages::{Messages, RequestId};
+use dap_run::reply::{Reply, refuse};
 use dap_slice::conditions::ConditionalBreakpoints;
 use lab_core::lab::Lab;
 use lab_core::run_state::RunState;
@@ -62,7 +62,7 @@ impl Drop for Session {
 impl Model for Session {
     ghost use Rattle.std.specs.Coded.{codes};
     ghost use Rattle.asm_expr.specs.contracts.expression.Expr as expr;
-    ghost use Rattle.dap_program.specs.Boards.{RepresentsSomeBoard};
+    ghost use Rattle.dap_run.specs.Boards.{RepresentsSomeBoard};
     ghost use Rattle.dap_session.specs.Represents.{SessionFields};
 
     ghost Value = { SessionFields };

@@ -1,8 +1,8 @@
 //! What an editor asked for so far.
 
-use dap_launch::program::Program;
 use dap_points::points::WantedBreakpoints;
 use dap_requests::request::{ExceptionFilters, SupportedEvents};
+use dap_run::program::Program;
 use dap_slice::conditions::ConditionalBreakpoints;
 
 /// Of an editor that understands no event beside those that each must.

@@ -4,22 +4,24 @@ ghost use Rattle.dap_session.specs.Breakpoints.{lines_list, labels_list, kept_or
 ghost use Rattle.dap_session.specs.Breakpoints.{setting_lines, setting_functions, locating};
 ghost use Rattle.dap_session.specs.States.{SessionState, with_points, with_conditional};
 ghost use Rattle.dap_points.specs.Points.{number_of, has_place, with_lines};
-ghost use Rattle.dap_launch.specs.Points.{points_where, labels_where};
-ghost use Rattle.dap_launch.specs.Programs.{program_at};
+ghost use Rattle.dap_breakpoints.specs.Reports.{points_where, labels_where};
+ghost use Rattle.dap_run.specs.Programs.{program_at};
 ghost use Rattle.dap_session.specs.Represents.{RepresentsSession, RepliesAs, ArmsWanted};
 
 use crate::session::Session;
 use base_text::sequence::Sequence;
 use base_text::text::Text;
+use dap_breakpoints::arming::{ProgramBreakpoints, arm_with, wanted_of};
+use dap_breakpoints::report::{labels_where, points_where};
 use dap_disassembly::code_lines::locations;
-use dap_launch::points::{copy_functions, copy_source, labels_where, points_where};
-use dap_launch::program::{ProgramBreakpoints, arm_with, program_at, wanted_of};
-use dap_launch::reply::{Reply, succeed};
 use dap_messages::message::{EditorBody, PlacedBreakpoint};
+use dap_points::copies::{copy_functions, copy_source};
 use dap_points::placed::LABEL_NUMBER;
 use dap_points::points::SourceLines;
-use dap_program::messages::FollowUp;
 use dap_requests::request::{FunctionBreakpoint, LineBreakpoint};
+use dap_run::messages::FollowUp;
+use dap_run::program::program_at;
+use dap_run::reply::{Reply, succeed};
 use dap_slice::conditions::ConditionalBreakpoints;
 use std::alloc::{AllocError, Global};
 

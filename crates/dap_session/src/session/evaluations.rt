@@ -9,15 +9,15 @@ use crate::session::Session;
 use crate::session::requests::refuse_for;
 use base_text::text::Text;
 use dap_board::perform::perform;
-use dap_launch::reply::{Reply, succeed};
 use dap_messages::message::{EditorBody, EditorOutcome, ValueFormat};
-use dap_program::messages::FollowUp;
-use dap_program::refusals::board_refusal;
 use dap_prompt::answer::{
     VariablesAnswer, done_value, evaluation, prompt_evaluation, variables_answer,
 };
 use dap_prompt::prompt::{PromptCommand, prompt_command};
 use dap_requests::request::{EvaluateContext, VariablesCommand};
+use dap_run::messages::FollowUp;
+use dap_run::refusals::board_refusal;
+use dap_run::reply::{Reply, succeed};
 use dap_talk::command::DapCommand;
 use dap_values::assignment::SetValue;
 use lab_core::fault::EventFault;

@@ -6,14 +6,14 @@ ghost use Rattle.dap_session.specs.Represents.{RepresentsSession, RepliesAs, Fin
 
 use crate::session::Session;
 use base_text::sequence::Sequence;
-use dap_data::instructions::copy_instructions;
-use dap_launch::points::instructions_where;
-use dap_launch::program::{ProgramBreakpoints, conditional_for, wanted_of};
-use dap_launch::reply::{Reply, succeed};
+use dap_breakpoints::arming::{ProgramBreakpoints, conditional_for, wanted_of};
+use dap_breakpoints::report::instructions_where;
 use dap_messages::message::EditorBody;
+use dap_points::copies::copy_instructions;
 use dap_points::placed::INSTRUCTION_NUMBER;
-use dap_program::messages::FollowUp;
 use dap_requests::request::InstructionBreakpoint;
+use dap_run::messages::FollowUp;
+use dap_run::reply::{Reply, succeed};
 use dap_slice::conditions::ConditionalBreakpoints;
 use std::alloc::{AllocError, Global};
 

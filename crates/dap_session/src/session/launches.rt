@@ -2,7 +2,7 @@
 ghost use Rattle.std.specs.Prelude.{◌≡◌, Some, OnErr, IfOk};
 ghost use Rattle.lab_core.specs.Board.{Board};
 ghost use Rattle.lab_core.specs.Labs.{RepresentsBoard};
-ghost use Rattle.dap_program.specs.Boards.{RepresentsSomeBoard};
+ghost use Rattle.dap_run.specs.Boards.{RepresentsSomeBoard};
 ghost use Rattle.dap_session.specs.Launches.{beginning_where, started_follow, installing, loading, launching};
 ghost use Rattle.dap_session.specs.Launches.{restarting, loading_file};
 ghost use Rattle.dap_session.specs.Slices.{told_by, told_in};
@@ -12,19 +12,18 @@ ghost use Rattle.dap_session.specs.Represents.{RepresentsSession, RepliesAs, Tel
 use crate::session::Session;
 use base_text::sequence::Sequence;
 use base_text::text::Text;
+use dap_breakpoints::arming::arm_program;
+use dap_breakpoints::report::all_changed;
+use dap_launch::failure::failure;
 use dap_launch::file::{FileText, program_text};
-use dap_launch::opening::{Opening, begun_follow};
-use dap_launch::points::all_changed;
-use dap_launch::program::{
-    LoadedProgram, Phase, Program, arm_program, begin_if, begin_program, copy_launch,
-};
-use dap_launch::reply::{Reply, accept};
+use dap_launch::load::{LoadFault, Loaded, load};
+use dap_launch::opening::{LoadReason, Opening, begun_follow, opening_messages};
+use dap_launch::program::{begin_if, begin_program, copy_launch};
 use dap_messages::message::Message;
-use dap_program::failure::failure;
-use dap_program::load::{LoadFault, Loaded, load};
-use dap_program::messages::{FollowUp, RequestId};
-use dap_program::opening::{LoadReason, opening_messages};
 use dap_requests::request::Launch;
+use dap_run::messages::{FollowUp, RequestId};
+use dap_run::program::{LoadedProgram, Phase, Program};
+use dap_run::reply::{Reply, accept};
 use dap_slice::conditions::ConditionalBreakpoints;
 use std::alloc::{AllocError, Global};
 

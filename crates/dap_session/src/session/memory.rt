@@ -1,6 +1,6 @@
 //! Memory and code.
 ghost use Rattle.std.specs.Prelude.{◌≡◌, true, IfOk};
-ghost use Rattle.dap_program.specs.Bounds as bounds;
+ghost use Rattle.dap_run.specs.Bounds as bounds;
 ghost use Rattle.dap_session.specs.Memory.{first_line, memory_at, is_stopped};
 ghost use Rattle.dap_session.specs.Memory.{writing_from, writing};
 ghost use Rattle.dap_session.specs.Requests.{reading, disassembling_from, editing_memory};
@@ -11,12 +11,12 @@ use crate::session::Session;
 use base_text::sequence::Bytes;
 use dap_disassembly::before::before_instructions;
 use dap_disassembly::disassembly::instructions;
-use dap_launch::reply::{Reply, succeed};
 use dap_messages::message::{EditorBody, OperandStyle};
-use dap_program::messages::FollowUp;
-use dap_program::refusals::board_refusal;
 use dap_requests::offset::SignedOffset;
 use dap_requests::request::{EditorCommand, RequestContent};
+use dap_run::messages::FollowUp;
+use dap_run::refusals::board_refusal;
+use dap_run::reply::{Reply, succeed};
 use dap_values::distance::{address_at, far_address, wrapped_at, writable};
 use dap_values::memory::read_memory;
 use lab_core::fault::EventFault;

@@ -6,15 +6,15 @@ ghost use Rattle.dap_session.specs.Represents.{RepresentsSession, RepliesAs, Fin
 
 use crate::session::Session;
 use base_text::sequence::Sequence;
-use dap_data::info::data_info;
-use dap_data::points::copy_data;
-use dap_launch::points::data_where;
-use dap_launch::program::{ProgramBreakpoints, conditional_for, wanted_of};
-use dap_launch::reply::{Reply, succeed};
+use dap_breakpoints::arming::{ProgramBreakpoints, conditional_for, wanted_of};
+use dap_breakpoints::info::data_info;
+use dap_breakpoints::report::data_where;
 use dap_messages::message::EditorBody;
+use dap_points::copies::copy_data;
 use dap_points::placed::DATA_NUMBER;
-use dap_program::messages::FollowUp;
 use dap_requests::request::{DataBreakpoint, DataQuery};
+use dap_run::messages::FollowUp;
+use dap_run::reply::{Reply, succeed};
 use dap_slice::conditions::ConditionalBreakpoints;
 use std::alloc::{AllocError, Global};
 

@@ -6,9 +6,9 @@ ghost use Rattle.dap_session.specs.Represents.{RepresentsSession, TellsAs, Wants
 
 use crate::session::{RunSlice, Session};
 use base_text::sequence::Sequence;
-use dap_launch::life::{held_ends, note_end};
 use dap_messages::message::Message;
-use dap_program::slice::{Slice, make_slice};
+use dap_run::life::{held_ends, note_end};
+use dap_run::slice::{Slice, make_slice};
 use lab_core::answer::SliceOutcome;
 use lab_core::run_slice::STEPS;
 use std::alloc::{AllocError, Global};

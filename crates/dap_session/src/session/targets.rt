@@ -6,13 +6,13 @@ ghost use Rattle.dap_session.specs.Represents.{RepresentsSession, Replies, Repli
 use crate::session::Session;
 use base_text::text::Text;
 use dap_disassembly::target::first_target;
-use dap_launch::life::release_program;
-use dap_launch::program::program_at;
-use dap_launch::reply::{Reply, accept, succeed};
 use dap_messages::message::{EditorBody, EditorStop};
-use dap_program::change::set_pc;
-use dap_program::messages::FollowUp;
-use dap_program::refusals::board_refusal;
+use dap_run::change::set_pc;
+use dap_run::life::release_program;
+use dap_run::messages::FollowUp;
+use dap_run::program::program_at;
+use dap_run::refusals::board_refusal;
+use dap_run::reply::{Reply, accept, succeed};
 use lab_core::fault::EventFault;
 use std::alloc::{AllocError, Global};
 

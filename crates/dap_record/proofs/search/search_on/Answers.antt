@@ -1,6 +1,6 @@
 use Rattle.std.proofs.Common.{◌∙◌, [], ◌∷◌, refl, sym, ap, subst}
 use Rattle.dap_search.specs.Searches.{IsSearchOf}
-use Rattle.dap_program.specs.Messages.{as_messages}
+use Rattle.dap_run.specs.Messages.{as_messages}
 use Rattle.dap_session.specs.Rewinds.{after_search, SearchedFurther, target_for}
 use Rattle.dap_record.specs.Backward.{found_event}
 use Rattle.dap_record.specs.Represents.{RepresentsRecording, IsSearchFor}

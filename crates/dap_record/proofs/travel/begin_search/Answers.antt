@@ -1,5 +1,5 @@
 use Rattle.std.proofs.Common.{◌≡◌, ◌∙◌, Some, refl, sym, ap, subst}
-use Rattle.dap_launch.specs.declared.reply.Reply.{Reply}
+use Rattle.dap_run.specs.declared.reply.Reply.{Reply}
 use Rattle.dap_history.specs.Runs.{board_at}
 use Rattle.dap_session.specs.Laws.{SameParts}
 use Rattle.dap_record.specs.Fields.{RecordingFields}

@@ -1,7 +1,7 @@
 use Rattle.std.proofs.Common.{◌≡◌, ◌∙◌, List, Some, ap, subst, sym}
 use Rattle.dap_requests.specs.declared.request.LineBreakpoint.{LineBreakpoint}
-use Rattle.dap_launch.specs.Programs.{ProgramLists, lists_in, program_lists}
-use Rattle.dap_launch.specs.Programs.{program_at}
+use Rattle.dap_breakpoints.specs.Arming.{ProgramLists, lists_in, program_lists}
+use Rattle.dap_run.specs.Programs.{program_at}
 use Rattle.dap_session.specs.Breakpoints.{lines_list, lines_wanted}
 use Rattle.dap_session.specs.Represents.{SessionFields, RepresentsSession}
 use Rattle.dap_session.proofs.ArmLemmas.{armed_found}

@@ -1,5 +1,5 @@
 use Rattle.std.proofs.Common.{◌≡◌, ap, subst, sym}
-use Rattle.dap_launch.specs.Programs.{ProgramLists, lists_in}
+use Rattle.dap_breakpoints.specs.Arming.{ProgramLists, lists_in}
 use Rattle.dap_session.specs.Breakpoints.{instructions_list, instructions_wanted}
 use Rattle.dap_session.specs.Represents.{SessionFields, RepresentsSession}
 use Rattle.dap_session.proofs.ArmLemmas.{wanted_found}

@@ -1,9 +1,10 @@
 use Rattle.std.proofs.Common.{◌≡◌, ◌∙◌, List, sym, ap, subst, Some}
 use Rattle.lab_core.specs.Labs.{RepresentsBoard}
 use Rattle.dap_session.specs.declared.settings.SessionSettings.{SessionSettings}
-use Rattle.dap_launch.specs.declared.program.Program.{Program}
+use Rattle.dap_run.specs.declared.program.Program.{Program}
 use Rattle.dap_slice.specs.declared.conditions.ConditionalBreakpoint.{ConditionalBreakpoint}
-use Rattle.dap_launch.specs.Programs.{program_board, program_conditions, board_if, begun_if}
+use Rattle.dap_breakpoints.specs.Arming.{program_board, program_conditions}
+use Rattle.dap_launch.specs.Programs.{board_if, begun_if}
 use Rattle.dap_session.specs.States.{with_board, with_program, with_conditional}
 use Rattle.dap_session.specs.Represents.{RepresentsSession}
 use Rattle.dap_session.proofs.session.Session.install.Goals as goal

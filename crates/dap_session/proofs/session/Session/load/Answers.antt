@@ -1,4 +1,4 @@
-use Rattle.dap_program.specs.Loading.{load_result}
+use Rattle.dap_launch.specs.Loading.{load_result}
 use Rattle.dap_session.proofs.LoadLemmas.{loaded_told}
 use Rattle.dap_session.proofs.session.Session.load.Goals as goal
 

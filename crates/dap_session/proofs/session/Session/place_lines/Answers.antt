@@ -2,11 +2,11 @@ use Rattle.std.proofs.Common.{◌∙◌, List, ap, subst, rules}
 use Rattle.dap_messages.specs.declared.message.EditorBody.TheVariants.{Breakpoints}
 use Rattle.dap_messages.specs.declared.message.EditorOutcome.TheVariants.{Success}
 use Rattle.dap_messages.specs.declared.message.PlacedBreakpoint.{PlacedBreakpoint}
-use Rattle.dap_launch.specs.declared.reply.Reply.{Reply}
+use Rattle.dap_run.specs.declared.reply.Reply.{Reply}
 use Rattle.dap_points.specs.Points.{with_lines}
 use Rattle.dap_slice.specs.declared.conditions.ConditionalBreakpoint.{ConditionalBreakpoint}
 use Rattle.dap_session.specs.States.{with_board, with_points, with_conditional}
-use Rattle.dap_launch.specs.Programs.{program_at}
+use Rattle.dap_run.specs.Programs.{program_at}
 use Rattle.dap_session.specs.Breakpoints.{armed_where, kept_or, lines_wanted}
 use Rattle.dap_session.specs.Represents.{RepresentsSession}
 use Rattle.dap_session.proofs.session.Session.place_lines.Goals as goal

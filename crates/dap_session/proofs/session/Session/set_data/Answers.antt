@@ -4,8 +4,8 @@ use Rattle.dap_messages.specs.declared.message.EditorBody.TheVariants.{Breakpoin
 use Rattle.dap_messages.specs.declared.message.EditorOutcome.TheVariants.{Success}
 use Rattle.dap_messages.specs.declared.message.PlacedBreakpoint.{PlacedBreakpoint}
 use Rattle.dap_requests.specs.declared.request.DataBreakpoint.{DataBreakpoint}
-use Rattle.dap_launch.specs.declared.reply.Reply.{Reply}
-use Rattle.dap_launch.specs.Points.{data_where}
+use Rattle.dap_run.specs.declared.reply.Reply.{Reply}
+use Rattle.dap_breakpoints.specs.Reports.{data_where}
 use Rattle.dap_session.specs.declared.settings.SessionSettings.{SessionSettings}
 use Rattle.dap_session.specs.States.{with_points, with_conditional}
 use Rattle.dap_session.specs.Breakpoints.{conditional_where, data_list, setting_data}

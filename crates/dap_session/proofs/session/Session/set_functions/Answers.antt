@@ -4,7 +4,7 @@ use Rattle.dap_messages.specs.declared.message.EditorBody.TheVariants.{Breakpoin
 use Rattle.dap_messages.specs.declared.message.EditorOutcome.TheVariants.{Success}
 use Rattle.dap_messages.specs.declared.message.PlacedBreakpoint.{PlacedBreakpoint}
 use Rattle.dap_requests.specs.declared.request.FunctionBreakpoint.{FunctionBreakpoint}
-use Rattle.dap_launch.specs.declared.reply.Reply.{Reply}
+use Rattle.dap_run.specs.declared.reply.Reply.{Reply}
 use Rattle.dap_session.specs.States.{with_board, with_points, with_conditional}
 use Rattle.dap_session.specs.Breakpoints.{armed_where, conditional_where, labels_list, labels_wanted}
 use Rattle.dap_session.specs.Breakpoints.{setting_functions}

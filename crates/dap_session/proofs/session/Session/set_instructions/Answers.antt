@@ -4,8 +4,8 @@ use Rattle.dap_messages.specs.declared.message.EditorBody.TheVariants.{Breakpoin
 use Rattle.dap_messages.specs.declared.message.EditorOutcome.TheVariants.{Success}
 use Rattle.dap_messages.specs.declared.message.PlacedBreakpoint.{PlacedBreakpoint}
 use Rattle.dap_requests.specs.declared.request.InstructionBreakpoint.{InstructionBreakpoint}
-use Rattle.dap_launch.specs.declared.reply.Reply.{Reply}
-use Rattle.dap_launch.specs.Points.{instructions_where}
+use Rattle.dap_run.specs.declared.reply.Reply.{Reply}
+use Rattle.dap_breakpoints.specs.Reports.{instructions_where}
 use Rattle.dap_session.specs.declared.settings.SessionSettings.{SessionSettings}
 use Rattle.dap_session.specs.States.{with_points, with_conditional}
 use Rattle.dap_session.specs.Breakpoints.{conditional_where, instructions_list, setting_instructions}

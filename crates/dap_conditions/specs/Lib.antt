@@ -1,0 +1,2 @@
+pub mod HitConditions
+pub mod Conditions

@@ -1,5 +1,0 @@
-use Rattle.dap_data.proofs.PlaceLemmas as lemmas
-use Rattle.dap_data.proofs.laws.ids_are_read.Goals as goal
-
-pub returns-clause-bytes : goal.returns-clause-bytes
-returns-clause-bytes c = lemmas.bytes_back

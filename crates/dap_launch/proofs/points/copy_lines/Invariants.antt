@@ -1,5 +1,0 @@
-use Rattle.std.proofs.Common.{◌≡◌, take}
-use Rattle.dap_launch.proofs.points.copy_lines.Given as goal
-
-abbrev pub invariant-loop-breakpoint : goal.invariant-loop-breakpoint
-invariant-loop-breakpoint l = l.copies ≡ take l.breakpoint-index l.lines

@@ -1,3 +1,0 @@
-pub mod HitConditions
-pub mod Conditions
-pub mod Landings

@@ -1,0 +1,10 @@
+pub mod Words
+pub mod Lives
+pub mod Programs
+pub mod Boards
+pub mod Messages
+pub mod Refusals
+pub mod Ends
+pub mod Slices
+pub mod Bounds
+pub mod Kits
