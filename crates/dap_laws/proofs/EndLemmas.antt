@@ -15,7 +15,7 @@ use Rattle.dap_run.specs.Lives.{policy_of}
 use Rattle.dap_session.specs.States.{SessionState, wants_slice, with_board}
 use Rattle.dap_session.specs.Slices.{Told, slicing}
 use Rattle.dap_session.specs.Laws.{EndIsTold}
-use Rattle.dap_session.proofs.EndLemmas.{ended_so}
+use Rattle.dap_laws.proofs.SessionEndLemmas.{ended_so}
 use Rattle.dap_record.specs.Recordings.{Recording, RecordedState, is_behind, after_inputs}
 use Rattle.dap_record.specs.Slices.{is_output, new_messages, slice_limit, recorded_slice, run_told}
 use Rattle.dap_record.specs.Slices.{slice_told}

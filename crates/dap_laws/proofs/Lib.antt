@@ -7,3 +7,10 @@ pub mod StopLemmas
 pub mod EndLemmas
 pub mod PointLemmas
 pub mod CountLemmas
+pub mod SessionTellLemmas
+pub mod BoardLemmas
+pub mod RunLemmas
+pub mod TurnLemmas
+pub mod StartLemmas
+pub mod SessionStopLemmas
+pub mod SessionEndLemmas

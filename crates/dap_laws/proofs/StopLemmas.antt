@@ -46,11 +46,11 @@ use Rattle.dap_search.specs.Recounts.{without_hits_between}
 use Rattle.dap_session.specs.Slices.{slicing}
 use Rattle.dap_session.specs.Laws.{Shown, shown_after, shown_by, shown_for, ends_in, ends_told}
 use Rattle.dap_session.specs.Laws.{has_run, has_begun, is_begun, events_in, asks_to_load}
-use Rattle.dap_session.proofs.BoardLemmas.{SameRun, KeepsRun, kept_press}
-use Rattle.dap_session.proofs.RunLemmas.{Seen, seen, seen_board, PhaseFits, ProgramFits, IsReached, Follows}
-use Rattle.dap_session.proofs.RunLemmas.{ended_count, none_ended, still, IsCalm, lively, begun_runs}
-use Rattle.dap_session.proofs.StopLemmas.{follows_turn, follows_slicing, follows_sliced, running_has}
-use Rattle.dap_session.proofs.StopLemmas.{quiet_turn, quiet_sliced}
+use Rattle.dap_laws.proofs.BoardLemmas.{SameRun, KeepsRun, kept_press}
+use Rattle.dap_laws.proofs.RunLemmas.{Seen, seen, seen_board, PhaseFits, ProgramFits, IsReached, Follows}
+use Rattle.dap_laws.proofs.RunLemmas.{ended_count, none_ended, still, IsCalm, lively, begun_runs}
+use Rattle.dap_laws.proofs.SessionStopLemmas.{follows_turn, follows_slicing, follows_sliced, running_has}
+use Rattle.dap_laws.proofs.SessionStopLemmas.{quiet_turn, quiet_sliced}
 use Rattle.dap_record.specs.Recordings.{Recording, RecordedState, recorded_before_requests, input_made}
 use Rattle.dap_record.specs.Recordings.{forgets_by, is_behind, inputs_ahead, after_inputs}
 use Rattle.dap_slice.specs.Stops.{back_ids}

@@ -24,8 +24,8 @@ use Rattle.dap_session.specs.States.{SessionState, wants_slice}
 use Rattle.dap_session.specs.Slices as session
 use Rattle.dap_session.specs.Slices.{caller_of, slicing}
 use Rattle.dap_session.specs.Laws.{caller_in, callers_answered, stdout_in, console_of, written_in}
-use Rattle.dap_session.proofs.LawLemmas.{callers_answered-told, answered_slicing, answered_sliced}
-use Rattle.dap_session.proofs.LawLemmas.{IsSilent, silent-append, silent_turn, shown_slicing}
+use Rattle.dap_laws.proofs.SessionTellLemmas.{callers_answered-told, answered_slicing, answered_sliced}
+use Rattle.dap_laws.proofs.SessionTellLemmas.{IsSilent, silent-append, silent_turn, shown_slicing}
 use Rattle.dap_record.specs.Recordings.{Recording, RecordedState, input_made, forgets_by, is_behind}
 use Rattle.dap_record.specs.Backward.{found_event, met_or_entry}
 use Rattle.dap_record.specs.Turns.{RecordedTurn, forgotten_events, count_of, turn_of, turn}

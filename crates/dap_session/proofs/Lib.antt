@@ -1,14 +1,7 @@
 pub mod EditLemmas
 pub mod LoadLemmas
-pub mod LawLemmas
 pub mod SessionLemmas
-pub mod BoardLemmas
-pub mod RunLemmas
-pub mod TurnLemmas
-pub mod StartLemmas
-pub mod StopLemmas
 pub mod StandsLemmas
-pub mod EndLemmas
 pub mod RefusalLemmas
 pub mod ChangeLemmas
 pub mod InputLemmas

@@ -1,4 +1,4 @@
-use Rattle.dap_session.proofs.StopLemmas.{run_begun, quiet_told, end_told}
+use Rattle.dap_laws.proofs.SessionStopLemmas.{run_begun, quiet_told, end_told}
 use Rattle.dap_laws.proofs.session.end_is_told.Goals as goal
 
 pub returns : goal.returns

@@ -1,4 +1,4 @@
-use Rattle.dap_session.proofs.LawLemmas.{kept_look}
+use Rattle.dap_laws.proofs.SessionTellLemmas.{kept_look}
 use Rattle.dap_laws.proofs.session.looks_keep_board.Goals as goal
 
 pub returns : goal.returns

@@ -1,4 +1,4 @@
-use Rattle.dap_session.proofs.StopLemmas.{stops_told}
+use Rattle.dap_laws.proofs.SessionStopLemmas.{stops_told}
 use Rattle.dap_laws.proofs.session.stops_are_told.Goals as goal
 
 pub returns : goal.returns

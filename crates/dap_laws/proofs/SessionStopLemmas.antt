@@ -66,18 +66,18 @@ use Rattle.dap_session.specs.Slices.{Input, request, slice, settings_after, slic
 use Rattle.dap_session.specs.Slices.{play_all, with_question, with_hits}
 use Rattle.dap_session.specs.Laws.{Shown, stopped, unstopped, shown_after, shown_by, shown_for, ends_told}
 use Rattle.dap_session.specs.Laws.{ends_between, has_run, has_begun, events_in, asks_to_load, loads}
-use Rattle.dap_session.proofs.BoardLemmas.{SameRun, kept_without, kept_dump, kept_poke, kept_press}
-use Rattle.dap_session.proofs.BoardLemmas.{kept_steps}
-use Rattle.dap_session.proofs.RunLemmas.{Seen, seen, seen_board, PhaseFits, ProgramFits, IsReached, no_run}
-use Rattle.dap_session.proofs.RunLemmas.{idle, lively}
-use Rattle.dap_session.proofs.RunLemmas.{begun_runs, with_run, none_living}
-use Rattle.dap_session.proofs.RunLemmas.{over_seen, Follows, still, runs_on, ends_live, IsCalm, calm_follows}
-use Rattle.dap_session.proofs.TurnLemmas.{GoesBy, goes_either, goes_changed, goes_board, goes_shown}
-use Rattle.dap_session.proofs.TurnLemmas.{goes_evaluating, goes_handling, goes_to}
-use Rattle.dap_session.proofs.TurnLemmas.{goes_lines, goes_functions, goes_writing, goes_paused}
-use Rattle.dap_session.proofs.TurnLemmas.{goes_resumed, goes_finished, goes_resetting, goes_terminating}
-use Rattle.dap_session.proofs.StartLemmas.{goes_where, calm_none, FollowsTurn, follows_launch}
-use Rattle.dap_session.proofs.StartLemmas.{follows_restart}
+use Rattle.dap_laws.proofs.BoardLemmas.{SameRun, kept_without, kept_dump, kept_poke, kept_press}
+use Rattle.dap_laws.proofs.BoardLemmas.{kept_steps}
+use Rattle.dap_laws.proofs.RunLemmas.{Seen, seen, seen_board, PhaseFits, ProgramFits, IsReached, no_run}
+use Rattle.dap_laws.proofs.RunLemmas.{idle, lively}
+use Rattle.dap_laws.proofs.RunLemmas.{begun_runs, with_run, none_living}
+use Rattle.dap_laws.proofs.RunLemmas.{over_seen, Follows, still, runs_on, ends_live, IsCalm, calm_follows}
+use Rattle.dap_laws.proofs.TurnLemmas.{GoesBy, goes_either, goes_changed, goes_board, goes_shown}
+use Rattle.dap_laws.proofs.TurnLemmas.{goes_evaluating, goes_handling, goes_to}
+use Rattle.dap_laws.proofs.TurnLemmas.{goes_lines, goes_functions, goes_writing, goes_paused}
+use Rattle.dap_laws.proofs.TurnLemmas.{goes_resumed, goes_finished, goes_resetting, goes_terminating}
+use Rattle.dap_laws.proofs.StartLemmas.{goes_where, calm_none, FollowsTurn, follows_launch}
+use Rattle.dap_laws.proofs.StartLemmas.{follows_restart}
 
 -- ---- the requests that load nothing
 

@@ -42,12 +42,12 @@ use Rattle.dap_session.specs.Launches.{installing, beginning_in, beginning_where
 use Rattle.dap_session.specs.Launches.{loading_as, by_text, loading, launching_over, restarting_of}
 use Rattle.dap_session.specs.Requests.{set_configured}
 use Rattle.dap_session.specs.Laws.{Shown, unstopped, shown_after, shown_for, ends_told, has_run}
-use Rattle.dap_session.proofs.BoardLemmas.{kept_armed, kept_typed, run_started, begun_run, begun_attached}
-use Rattle.dap_session.proofs.BoardLemmas.{IsLoaded, is_loaded}
-use Rattle.dap_session.proofs.RunLemmas.{Seen, seen, PhaseFits, ProgramFits, IsReached, both, idle, waiting}
-use Rattle.dap_session.proofs.RunLemmas.{Follows, Goes, none_ended, none_living, still, IsCalm, calm_follows}
-use Rattle.dap_session.proofs.RunLemmas.{calm_still}
-use Rattle.dap_session.proofs.TurnLemmas.{GoesBy}
+use Rattle.dap_laws.proofs.BoardLemmas.{kept_armed, kept_typed, run_started, begun_run, begun_attached}
+use Rattle.dap_laws.proofs.BoardLemmas.{IsLoaded, is_loaded}
+use Rattle.dap_laws.proofs.RunLemmas.{Seen, seen, PhaseFits, ProgramFits, IsReached, both, idle, waiting}
+use Rattle.dap_laws.proofs.RunLemmas.{Follows, Goes, none_ended, none_living, still, IsCalm, calm_follows}
+use Rattle.dap_laws.proofs.RunLemmas.{calm_still}
+use Rattle.dap_laws.proofs.TurnLemmas.{GoesBy}
 
 -- ---- a program begins
 

@@ -59,12 +59,12 @@ use Rattle.dap_session.specs.Memory.{is_stopped, writing_from, writing}
 use Rattle.dap_session.specs.Targets.{going_to}
 use Rattle.dap_session.specs.Requests.{board_done, finish_done, resetting, terminating}
 use Rattle.dap_session.specs.Laws.{has_run, shown_for}
-use Rattle.dap_session.proofs.BoardLemmas.{KeepsRun, kept_press, kept_show, kept_where}
-use Rattle.dap_session.proofs.BoardLemmas.{kept_written, kept_input, run_interrupted, still_attached}
-use Rattle.dap_session.proofs.RunLemmas.{seen, seen_board, IsReached, both, lively, over_seen, Follows, Goes}
-use Rattle.dap_session.proofs.RunLemmas.{still, PhaseFits, ProgramFits, none_living}
-use Rattle.dap_session.proofs.RunLemmas.{IsCalm, calm_still}
-use Rattle.dap_session.proofs.RunLemmas.{runs_on, goes_ended, goes_over}
+use Rattle.dap_laws.proofs.BoardLemmas.{KeepsRun, kept_press, kept_show, kept_where}
+use Rattle.dap_laws.proofs.BoardLemmas.{kept_written, kept_input, run_interrupted, still_attached}
+use Rattle.dap_laws.proofs.RunLemmas.{seen, seen_board, IsReached, both, lively, over_seen, Follows, Goes}
+use Rattle.dap_laws.proofs.RunLemmas.{still, PhaseFits, ProgramFits, none_living}
+use Rattle.dap_laws.proofs.RunLemmas.{IsCalm, calm_still}
+use Rattle.dap_laws.proofs.RunLemmas.{runs_on, goes_ended, goes_over}
 
 abbrev pub GoesBy : SessionState → Replied → Type 0
 GoesBy s r = Goes s (events_of r.follow) r.state

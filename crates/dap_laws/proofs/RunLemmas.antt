@@ -18,7 +18,7 @@ use Rattle.dap_run.specs.Lives.{in_phase, is_over, is_live}
 use Rattle.dap_session.specs.States.{SessionState, with_board}
 use Rattle.dap_session.specs.Laws.{Shown, shown_after, shown_for, ends_in, ends_told, ends_between, has_run}
 use Rattle.dap_session.specs.Laws.{is_begun, has_begun}
-use Rattle.dap_session.proofs.BoardLemmas.{SameRun}
+use Rattle.dap_laws.proofs.BoardLemmas.{SameRun}
 
 -- what decides whether a program runs
 pub record Seen : Type 0 where
