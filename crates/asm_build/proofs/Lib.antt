@@ -6,9 +6,3 @@ pub mod LayoutLemmas
 pub mod ImageLemmas
 pub mod ValueLemmas
 pub mod ReadingLemmas
-pub mod DefinitionFaults
-pub mod LayoutFaults
-pub mod LayoutRounds
-pub mod OperandFaults
-pub mod ByteFaults
-pub mod CellFaults

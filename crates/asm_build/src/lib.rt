@@ -1,6 +1,6 @@
 // Assembles the statements of a cell over the kept symbols. `build` returns the bytes, their lines, the start
 // and the symbols of the cell's one consistent reading, or else the first fault: first of the layout, line by
-// line, then of the values, line by line. `laws` says by conditions on readings where each fault is, and
+// line, then of the values, line by line. asm_laws says by conditions on readings where each fault is, and
 // which of several is returned. `Symbols` are names with their values, in the order of definition; those that
 // are passed in don't change.
 #![tactic(auto)]
@@ -10,7 +10,6 @@ pub mod cell;
 mod faults;
 mod image;
 pub mod laid;
-pub mod laws;
 mod layout;
 mod look_up;
 mod name_set;

@@ -1,15 +1,6 @@
 pub mod Numerals
 pub mod Quotes
-pub mod Readings
-pub mod Spans
 pub mod Scan
-pub mod Spelled
-pub mod StringLemmas
 pub mod Climbs
-pub mod Meaning
 pub mod Operands
-pub mod Shapes
-pub mod Trees
-pub mod OperandReadings
 pub mod HexNumerals
-pub mod SpelledLines

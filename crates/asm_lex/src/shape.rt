@@ -6,9 +6,9 @@ ghost use Rattle.asm_lex.specs.Shape.{opened_in, next_place, is_end, is_expressi
 use crate::operators::{infix_of, is_atom, is_sign, plain, prefix_of};
 use asm_syntax::token::{Placed, Token};
 
-// A place in an expression, with the number of open parentheses.
+/// A place in an expression, with the number of open parentheses.
 #[derive(Clone, Copy)]
-pub(crate) enum Place {
+pub enum Place {
     BeforeOperand(usize),
     AfterOperand(usize),
 }

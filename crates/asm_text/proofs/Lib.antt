@@ -1,13 +1,3 @@
-pub mod CellFaults
 pub mod Conditionals
-pub mod DirectiveForms
-pub mod InstructionForms
-pub mod FirstFaults
-pub mod LineFaults
-pub mod OperandForms
 pub mod Operands
-pub mod StatementFaults
 pub mod Texts
-pub mod WordFaults
-pub mod PlainLines
-pub mod TextLines

@@ -9,7 +9,6 @@ pub mod conditional;
 mod directives;
 mod forms;
 mod instructions;
-pub mod laws;
 mod lines;
 pub mod open_if;
 mod registers;

@@ -20,7 +20,7 @@ use Rattle.asm_lex.specs.Operators.{plain, symbols}
 use Rattle.asm_lex.specs.Reading.{Spells as Reads}
 use Rattle.asm_lex.specs.Spelling.{IsWord, IsToken, SpellsUpTo}
 use Rattle.asm_lex.specs.Tokens.{tokens_of}
-use Rattle.asm_lex.proofs.Readings.{tokens_spelled}
+use Rattle.asm_laws.proofs.Readings.{tokens_spelled}
 use Rattle.dap_expr.specs.Parts.{part_owning}
 use Rattle.dap_expr.specs.Names.{read_named}
 

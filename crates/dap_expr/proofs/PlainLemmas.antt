@@ -14,7 +14,7 @@ use Rattle.asm_expr.specs.declared.expression.Binary.{Binary}
 use Rattle.asm_lex.specs.Operators.{is_sign, plain, symbols, prefix_of, infix_of, atom_in}
 use Rattle.asm_lex.specs.Reading.{Spells, within_depth}
 use Rattle.asm_lex.specs.Shape.{is_expression}
-use Rattle.asm_lex.proofs.Meaning.{shape_is, expression_is}
+use Rattle.asm_laws.proofs.Meaning.{shape_is, expression_is}
 use Rattle.asm_syntax.specs.Outcome.{Fault, ◌>>=◌}
 use Rattle.asm_lex.specs.Climb.{expression, expr_at, first_column, whole}
 use Rattle.asm_lex.specs.Tokens.{tokens_of}

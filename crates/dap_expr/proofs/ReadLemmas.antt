@@ -7,7 +7,7 @@ use Rattle.asm_syntax.specs.declared.statement.Operand.{Operand}
 use Rattle.asm_syntax.specs.Lexemes.{Name, Sign, Piece}
 use Rattle.asm_lex.specs.Operators.{is_sign, plain, symbols}
 use Rattle.asm_lex.specs.Climb.{expression}
-use Rattle.asm_lex.proofs.Meaning.{expression_is}
+use Rattle.asm_laws.proofs.Meaning.{expression_is}
 use Rattle.asm_text.specs.Lines.{placed_well}
 use Rattle.lab_core.specs.Board.{Board}
 use Rattle.dap_expr.specs.declared.brackets.Open.{Open}

@@ -1,4 +1,4 @@
-//! What holds of a program's breakpoints (dap_points, dap_program, dap_launch).
+//! What holds of a program's breakpoints (dap_points, dap_breakpoints).
 ghost use Rattle.std.specs.Prelude.{◌⊎◌, ℕ};
 ghost use Rattle.std.specs.List.{Contains};
 ghost use Rattle.lab_core.specs.Board.{Board};

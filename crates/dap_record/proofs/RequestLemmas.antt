@@ -102,7 +102,7 @@ notes a found v c noted forgets after forgets_is after_is messages recording =
     let f = forgotten_events (forgets_by (input_made a v.session t) v.recording) (count_of v.recording) in
     record {
       messages =
-          messages ∙ (told ∙ ap (λ ms. Rattle.dap_program.specs.Messages.response c t.outcome ∷ ms)
+          messages ∙ (told ∙ ap (λ ms. Rattle.dap_run.specs.Messages.response c t.outcome ∷ ms)
           (sym (told-append t.events f)));
       recording =
           subst (λ o. RepresentsRecordingIf noted.recording o t.state) (sym after_is) recording;

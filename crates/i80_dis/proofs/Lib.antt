@@ -1,9 +1,1 @@
 pub mod Lines
-pub mod Relation
-pub mod Words
-pub mod Printed
-pub mod Instructions
-pub mod Cells
-pub mod Statements
-pub mod Layouts
-pub mod FirstLine

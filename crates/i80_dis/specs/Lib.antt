@@ -1,5 +1,3 @@
-pub mod FirstLine
-pub mod Law
 pub mod Shown
 pub mod State
 pub mod Text

@@ -1,3 +1,14 @@
+pub mod SpelledLines
+pub mod PlainLines
+pub mod TextLines
+pub mod Relation
+pub mod Words
+pub mod Printed
+pub mod Instructions
+pub mod Cells
+pub mod Statements
+pub mod Layouts
+pub mod FirstLine
 pub mod Runs
 pub mod OnlyRuns
 pub mod Pieces

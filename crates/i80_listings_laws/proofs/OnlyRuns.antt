@@ -1,7 +1,7 @@
 -- Bytes at their addresses have one list of runs.
 use Rattle.std.proofs.Common.{◌≡◌, ◌↔◌, ℕ, ◌+◌, List, [], ◌∷◌, ◌++◌, length, Option, refl, sym, ap, subst}
 use Rattle.std.proofs.Common.{◌∙◌, arith}
-use Rattle.i80_dis.specs.Law.{image_from}
+use Rattle.i80_listings_laws.specs.Bytes.{image_from}
 use Rattle.i80_listings_laws.specs.Runs.{Run, present, image_of, BeginsFrom, AreApart, runs_of, AreRuns}
 use Rattle.i80_listings_laws.proofs.Runs.{later, runs_good, runs_image}
 

@@ -20,13 +20,13 @@ use Rattle.asm_lex.specs.Words.{misplaced_from}
 use Rattle.asm_text.specs.Forms.{directive_of}
 use Rattle.asm_text.specs.Lines.{label_at, action_of, operation_at, line_of}
 use Rattle.asm_text.specs.Statements.{step_of, statements_from, statements_of}
-use Rattle.asm_text.proofs.PlainLines.{number_at, does, Says, NumberSays}
-use Rattle.asm_text.proofs.TextLines.{first_line}
+use Rattle.i80_listings_laws.proofs.PlainLines.{number_at, does, Says, NumberSays}
+use Rattle.i80_listings_laws.proofs.TextLines.{first_line}
 use Rattle.i80_dis.specs.Text.{operand_field, text_line}
-use Rattle.i80_dis.proofs.Printed.{IsShort, address_printed}
-use Rattle.i80_dis.proofs.Instructions.{Giving, action_by, IsSaid, one_said}
-use Rattle.i80_dis.proofs.Cells.{Given}
-use Rattle.i80_dis.proofs.Statements.{origin_text, origin_is}
+use Rattle.i80_listings_laws.proofs.Printed.{IsShort, address_printed}
+use Rattle.i80_listings_laws.proofs.Instructions.{Giving, action_by, IsSaid, one_said}
+use Rattle.i80_listings_laws.proofs.Cells.{Given}
+use Rattle.i80_listings_laws.proofs.Statements.{origin_text, origin_is}
 use Rattle.i80_listings_laws.specs.Text.{start_text}
 use Rattle.i80_listings_laws.specs.Law.{IsStart}
 

@@ -15,10 +15,10 @@ use Rattle.asm_build.specs.Reading.{Entries, Lines, place_after, parts_after, ha
 use Rattle.asm_build.specs.Reading.{late_value}
 use Rattle.asm_build.specs.Layout.{past, laid_out, laid_after, layout}
 use Rattle.asm_build.specs.Meaning.{Output, at_address, overlaps, rows_of, output_of, definitions}
-use Rattle.asm_text.proofs.PlainLines.{does}
-use Rattle.i80_dis.specs.Law.{image_from}
-use Rattle.i80_dis.proofs.Instructions.{Giving, action_by}
-use Rattle.i80_dis.proofs.Statements.{origin}
+use Rattle.i80_listings_laws.proofs.PlainLines.{does}
+use Rattle.i80_listings_laws.specs.Bytes.{image_from}
+use Rattle.i80_listings_laws.proofs.Instructions.{Giving, action_by}
+use Rattle.i80_listings_laws.proofs.Statements.{origin}
 use Rattle.i80_listings_laws.proofs.Pieces.{Piece, gives, begins, action_in, statements_by, end_action}
 use Rattle.i80_listings_laws.proofs.Pieces.{end_statements}
 

@@ -5,10 +5,10 @@ use Rattle.std.proofs.Common.{◌∙◌, arith, append_assoc}
 use Rattle.std.proofs.lemmas.List.{length-append}
 use Rattle.i80_dis.specs.Shown.{lines_of}
 use Rattle.i80_dis.specs.Text.{origin_line}
-use Rattle.i80_dis.specs.Law.{image_from}
+use Rattle.i80_listings_laws.specs.Bytes.{image_from}
 use Rattle.i80_dis.proofs.Lines.{listing_some}
-use Rattle.i80_dis.proofs.Relation.{listed_lines}
-use Rattle.i80_dis.proofs.Cells.{Given, AreGiven, text_given, bytes_given, lines_given}
+use Rattle.i80_listings_laws.proofs.Relation.{listed_lines}
+use Rattle.i80_listings_laws.proofs.Cells.{Given, AreGiven, text_given, bytes_given, lines_given}
 use Rattle.i80_listings_laws.specs.Runs.{Run, image_of}
 use Rattle.i80_listings_laws.specs.Text.{runs_text}
 use Rattle.i80_listings_laws.proofs.Runs.{AreGood, RunsHaveBytes, later}

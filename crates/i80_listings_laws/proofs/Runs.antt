@@ -3,7 +3,7 @@ use Rattle.std.proofs.Common.{◌≡◌, ℕ, ◌+◌, ◌<◌, ◌≤◌, ◌�
 use Rattle.std.proofs.Common.{false, Option, Some, None, refl, sym, ap, subst, ◌∙◌, arith, eqb}
 use Rattle.std.specs.Prelude.{if◌then◌else◌, ◌==◌}
 use Rattle.std.proofs.lemmas.Bool.{eqb-true, eqb-false, ne_eqb}
-use Rattle.i80_dis.specs.Law.{AreBytes, image_from}
+use Rattle.i80_listings_laws.specs.Bytes.{AreBytes, image_from}
 use Rattle.i80_listings_laws.specs.Runs.{Run, present_from, image_of, BeginsFrom, AreApart}
 use Rattle.i80_listings_laws.specs.Runs.{with_byte, runs_from}
 use Rattle.i80_listings_laws.specs.Law.{HaveBytes}

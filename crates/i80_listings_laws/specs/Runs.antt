@@ -1,7 +1,7 @@
 -- The runs of a memory with gaps, which has for each address from 0 on its byte, if it has one.
 use Rattle.std.specs.Prelude.{◌≡◌, ℕ, ◌+◌, ◌<◌, ◌≤◌, List, [], ◌∷◌, ◌++◌, Option, Some, None, length}
 use Rattle.std.specs.Prelude.{if◌then◌else◌, ◌==◌}
-use Rattle.i80_dis.specs.Law.{image_from}
+use Rattle.i80_listings_laws.specs.Bytes.{image_from}
 
 -- ---- the bytes
 

@@ -1,4 +1,4 @@
-//! Laws of the definitions.
+//! Laws of the listing of a memory with gaps.
 ghost use Rattle.std.specs.Prelude.{◌≡◌, ◌≤◌, ◌+◌, ◌++◌, ◌⊎◌, ◌↔◌, ℕ, List, Option, Some, None, length, map};
 ghost use Rattle.std.specs.Prelude.{replicate};
 ghost use Rattle.std.specs.Str.Lines.{lines};

@@ -7,5 +7,3 @@ pub mod Turns
 pub mod Represents
 pub mod Kernels
 pub mod Running
-pub mod Events
-pub mod Laws

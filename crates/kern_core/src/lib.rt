@@ -8,7 +8,6 @@
 
 pub mod bare;
 pub mod kernel;
-pub mod laws;
 mod replies;
 mod state;
 

@@ -19,9 +19,9 @@ use Rattle.kern_calls.specs.declared.call.Reply.TheVariants as reply
 use Rattle.kern_calls.specs.declared.fault.KernelFault.{KernelFault}
 use Rattle.kern_calls.specs.declared.fault.KernelFault.TheVariants as fault
 use Rattle.kern_core.specs.Kernels.{is_entry}
-use Rattle.kern_core.specs.Laws.{posts_below}
+use Rattle.kern_laws.specs.Laws.{posts_below}
 use Rattle.kern_core.specs.Turns.{state_after}
-use Rattle.kern_core.proofs.NewLemmas.{new_connections, next_number}
+use Rattle.kern_laws.proofs.NewLemmas.{new_connections, next_number}
 use Rattle.kern_desk.specs.Seats.{calls_of as entry_calls_of}
 use Rattle.kern_net.specs.declared.end.PumpEnd.{PumpEnd}
 use Rattle.kern_net.specs.declared.end.PumpEnd.TheVariants as end

@@ -20,7 +20,7 @@ use Rattle.kern_calls.specs.declared.call.Reply.TheVariants as reply
 use Rattle.kern_calls.specs.declared.fault.KernelFault.{KernelFault}
 use Rattle.kern_calls.specs.declared.fault.KernelFault.TheVariants as fault
 use Rattle.kern_core.specs.Kernels.{is_entry}
-use Rattle.kern_core.specs.Laws.{posts_below}
+use Rattle.kern_laws.specs.Laws.{posts_below}
 use Rattle.kern_desk.specs.declared.desks.Joined.{Joined}
 use Rattle.kern_desk.specs.Joins.{IsUnjoined, IsRefused, IsOutOfTickets}
 use Rattle.kern_net.specs.declared.end.PumpEnd.{PumpEnd}

@@ -19,7 +19,7 @@ use Rattle.kern_calls.specs.declared.call.Call.TheVariants.{Join}
 use Rattle.kern_calls.specs.declared.call.Reply.TheVariants.{Joined}
 use Rattle.kern_calls.specs.declared.fault.KernelFault.{KernelFault}
 use Rattle.kern_calls.specs.declared.fault.KernelFault.TheVariants as fault
-use Rattle.kern_core.specs.Laws.{posts_below}
+use Rattle.kern_laws.specs.Laws.{posts_below}
 use Rattle.kern_desk.specs.Joins.{IsUnjoined}
 use Rattle.kern_net.specs.declared.end.PumpEnd.{PumpEnd}
 use Rattle.kern_net.specs.Gates.{WriterPolls}

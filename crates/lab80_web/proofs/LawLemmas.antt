@@ -12,7 +12,7 @@ use Rattle.kern_post.specs.declared.post.Post.{Post}
 use Rattle.kern_calls.specs.declared.call.Call.TheVariants.{Slice}
 use Rattle.kern_core.specs.States.{KernelState, kernel_before_calls}
 use Rattle.kern_core.specs.Turns.{next, state_after}
-use Rattle.kern_core.proofs.ShutLemmas.{when_shut}
+use Rattle.kern_laws.proofs.ShutLemmas.{when_shut}
 use Rattle.kern_render.proofs.RenderLemmas.{one_rendering}
 use Rattle.lab80_web.specs.declared.answer.Answer.TheVariants as answer
 use Rattle.lab80_web.specs.declared.items.Item.{Item}

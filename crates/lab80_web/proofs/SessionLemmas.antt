@@ -17,7 +17,7 @@ use Rattle.kern_calls.specs.declared.call.Call.TheVariants.{Slice}
 use Rattle.kern_core.specs.States.{KernelState}
 use Rattle.kern_core.specs.Turns.{turn, next}
 use Rattle.kern_core.specs.Represents.{KernelFields, RepresentsKernel}
-use Rattle.kern_core.proofs.HistoryLemmas.{kept_posts}
+use Rattle.kern_laws.proofs.HistoryLemmas.{kept_posts}
 use Rattle.lab80_web.specs.declared.answer.Answer.{Answer}
 use Rattle.lab80_web.specs.declared.answer.Answer.TheVariants as answer
 use Rattle.lab80_web.specs.Items.{item_of}

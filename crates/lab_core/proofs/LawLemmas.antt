@@ -17,10 +17,10 @@ use Rattle.lab_core.specs.Slices.{IsSlice, reason, reason_after_step, after_step
 use Rattle.asm_syntax.specs.declared.statement.Statement.{Statement}
 use Rattle.asm_syntax.specs.Outcome.{CellFault, ◌>>=◌}
 use Rattle.asm_text.specs.Statements.{statements_of}
-use Rattle.asm_text.proofs.FirstFaults.{text_says, text_faulted}
+use Rattle.asm_laws.proofs.FirstFaults.{text_says, text_faulted}
 use Rattle.asm_build.specs.Reading.{Entries}
 use Rattle.asm_build.specs.Meaning.{Meaning, built_of}
-use Rattle.asm_build.proofs.CellFaults.{judged}
+use Rattle.asm_laws.proofs.CellFaults.{judged}
 use Rattle.lab_image.specs.declared.sources.Source.{Source}
 use Rattle.lab_core.specs.Cells.{TextGives}
 use Rattle.lab_core.specs.SliceEnds.{or_goes_on, slice_from, sliced_at}

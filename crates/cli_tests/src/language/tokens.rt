@@ -2,7 +2,7 @@
 
 use crate::language::rows::{Asked, compare};
 use asm_expr::expression::Binary;
-use asm_lex::laws::{fault_ends_tokens, tokens_are_spelled};
+use asm_laws::tokens::{fault_ends_tokens, tokens_are_spelled};
 use asm_lex::lexer::tokens;
 use asm_syntax::fault::{FaultKind, LineFault};
 use asm_syntax::keyword::{Directive, Keyword, Mnemonic, RegisterWord};

@@ -1,5 +1,0 @@
-use Rattle.asm_lex.proofs.Readings.{fault_broken}
-use Rattle.asm_lex.proofs.laws.fault_ends_tokens.Goals as goal
-
-pub returns : goal.returns
-returns c line f = fault_broken line f

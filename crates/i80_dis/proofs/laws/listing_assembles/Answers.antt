@@ -1,5 +1,0 @@
-use Rattle.i80_dis.proofs.Layouts.{listing_assembles}
-use Rattle.i80_dis.proofs.laws.listing_assembles.Goals as goal
-
-pub returns : goal.returns
-returns c kept address bytes are within = listing_assembles kept address bytes are within

@@ -1,0 +1,16 @@
+pub mod CaseLemmas
+pub mod BoardLemmas
+pub mod RunLemmas
+pub mod FormLemmas
+pub mod InvariantLemmas
+pub mod PieceLemmas
+pub mod ShutLemmas
+pub mod HistoryLemmas
+pub mod ReplyLemmas
+pub mod ToldLemmas
+pub mod AddressLemmas
+pub mod SubscriberLemmas
+pub mod NewLemmas
+pub mod ExecutionLemmas
+pub mod TalkLemmas
+pub mod ConversationLemmas
