@@ -1,13 +1,15 @@
-"""The static site of web/, and a host of files for it, in the place of a Jupyter server."""
+"""The static site of web/, and a host of files for it, in the place of a Jupyter server; and its page as one file, without a host."""
 import functools
 import http.server
 import os
+import shutil
 import subprocess
 import tempfile
 import threading
 import unittest
 import urllib.parse
 import uuid
+from pathlib import Path
 
 from ports import free_port
 
@@ -18,10 +20,9 @@ WEB = os.path.join(HERE, "..", "web")
 MODULES = os.environ.get("LAB80_MODULES")
 
 
-def make(folder):
-    """Makes the site in an empty folder. Where the modules can't be made, tests of it are passed over."""
-    given = ["--modules", MODULES] if MODULES else []
-    words = [os.path.join(WEB, "make"), folder, *given]
+def make(*given):
+    """Makes the site in an empty folder, or its page as a file. Where the module can't be made, tests of it are passed over."""
+    words = [os.path.join(WEB, "make"), *given, *(["--modules", MODULES] if MODULES else [])]
     made = subprocess.run(words, stdout=subprocess.PIPE, stderr=subprocess.STDOUT, text=True, check=False)
     if made.returncode:
         raise unittest.SkipTest(f"there is no site: {made.stdout.strip()}")
@@ -32,6 +33,14 @@ def site():
     """The site, in a folder that goes with this process."""
     folder = tempfile.TemporaryDirectory()
     make(folder.name)
+    return folder
+
+
+@functools.cache
+def one_file():
+    """The page as one file, in a folder that goes with this process."""
+    folder = tempfile.TemporaryDirectory()
+    make("--single", os.path.join(folder.name, "lab80.html"))
     return folder
 
 
@@ -87,3 +96,17 @@ class Site(Host):
 
     def end_kernels(self):
         """Boards end with their last window."""
+
+
+class OneFile:
+    """The page as one file, alone in a folder, in the place of a host. `change` makes another one of its text."""
+
+    def __init__(self, folder, change=lambda text: text):
+        self.path = Path(folder, "lab80.html")
+        shutil.copy(os.path.join(one_file().name, "lab80.html"), self.path)
+        self.path.write_text(change(self.path.read_text(encoding="utf-8")), encoding="utf-8")
+        self.address = self.path.as_uri()
+
+    def page(self, _name, _file, **asked):
+        query = urllib.parse.urlencode(asked)
+        return self.address + (f"?{query}" if query else "")

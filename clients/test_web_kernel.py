@@ -1,7 +1,6 @@
 """The kernel as a program over standard input and output: recorded sessions, whose posts were worked out independently; items
 that are refused; input that isn't ZMTP; runs without an end; want of memory."""
 import datetime
-import glob
 import json
 import os
 import resource
@@ -11,9 +10,8 @@ import unittest
 from modules import TOP
 from web_kernel import (CHANNELS, HOST, KERNEL, MOMENT, MOST, PATIENCE, PROGRAM, Board, answers_in, ask, debug, execute,
                         interrupt, item, play, request, run, window)
+from web_sessions import RECORDED, files, item_of
 from zmtp import frame, greeting, message, ready
-
-SESSIONS = sorted(glob.glob(str(TOP / "crates/lab80_tests/data/*.jsonl")))
 
 # The greatest limit of a journal: with another one calls may be refused that this kernel, which keeps none, takes.
 LIMIT = 4_194_304
@@ -72,21 +70,6 @@ BROKEN = (
 def setUpModule():
     if "LAB80_WEB" not in os.environ:
         subprocess.run([TOP / "build", "lab80_web"], stdin=subprocess.DEVNULL, check=True)
-
-
-def item_of(call):
-    """The item for a call of a recorded session."""
-    kind = call["kind"]
-    if kind == "Join":
-        return item("join", call["channel"], bytes.fromhex(call["identity"]))
-    if kind == "Leave":
-        return item("leave", call["connection"])
-    if kind == "Subscribe":
-        return item("subscribe", call["connection"], bytes.fromhex(call["prefix"]), call["moment"])
-    if kind == "Slice":
-        return item("run", call["moment"], 1)
-    return item("message", call["channel"], call["connection"], call["moment"], *map(bytes.fromhex, call["identities"]),
-                "<IDS|MSG>", "", call["header"], "{}", "{}", json.dumps(call["content"]))
 
 
 def lines_of(path):
@@ -154,19 +137,19 @@ class Recorded(unittest.TestCase):
 
     def test_sessions(self):
         count = 0
-        for path in SESSIONS:
+        for path in files():
             lines = list(lines_of(path))
             found = ask(*(item_of(line["call"]) for line in lines))
             self.assertEqual(len(found), len(lines), path)
             for at, (line, (posts, answer)) in enumerate(zip(lines, found)):
-                with self.subTest(path=path, line=at):
+                with self.subTest(path=path.name, line=at):
                     self.check_line(line, posts, answer)
             count += len(lines)
         self.assertGreater(count, 2_000)
 
     def test_files_of_the_crate(self):
         """The gate runs the program, as both compilers build it, on one of the sessions."""
-        lines = list(lines_of(TOP / "crates/lab80_tests/data/31-pc-and-breakpoints.jsonl"))
+        lines = list(lines_of(RECORDED / "31-pc-and-breakpoints.jsonl"))
         crate = TOP / "crates/lab80_web"
         self.assertEqual((crate / "stdin").read_bytes(), HOST + b"".join(item_of(it["call"]) for it in lines))
         self.assertEqual((crate / "stdout").read_bytes(), KERNEL + b"".join(output_of(lines)))

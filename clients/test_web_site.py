@@ -1,5 +1,6 @@
 """The static site: without its server, with two versions, in browsers that lack something; its boards after a reload, in a file,
 in two windows, and at their end."""
+import functools
 import importlib.machinery
 import importlib.util
 import json
@@ -14,7 +15,7 @@ from pathlib import Path
 import static_site
 from browser import Browser, wait_until
 from lab80_client import HELLO
-from panel_page import Page
+from panel_page import PARTS, Page
 from ports import free_port
 from test_panel import CALLS, DEAF
 from test_panel_programs import DROP, OPEN, shared
@@ -22,6 +23,7 @@ from test_panel_programs import DROP, OPEN, shared
 PROGRAM = Path(static_site.HERE).parent / "crates/lab80_web/out/lab80_web"
 # A loop of three instructions, so that BC isn't the same after each number of slices, which are powers of two.
 COUNTS = "        ORG 100H\nSTART:  INX B\n        NOP\n        JMP START\n        END START\n"
+TALKS = "        ORG 100H\nSTART:  MVI A,'x'\nNEXT:   OUT 1\n        JMP NEXT\n        END START\n"
 ENDLESS = "        ORG 100H\nSTART:  INR B\n        JMP START\n        END START\n"
 
 READY = "const [done] = arguments; navigator.serviceWorker.ready.then(() => done(true));"
@@ -34,6 +36,15 @@ SAVES_BYTES = """
         const keep = bytes => { window.saved = [this.download, [...new Uint8Array(bytes)]]; };
         fetch(this.href).then(reply => reply.arrayBuffer()).then(keep);
     };"""
+# Keeps the page busy for some milliseconds, ends the run, and tells how many characters come until it has ended.
+BUSY = """
+    const [milliseconds, done] = arguments, {socket} = line, take = socket.onmessage, until = performance.now() + milliseconds;
+    let count = 0;
+    socket.onmessage = event => { count += event.data.length; take(event); };
+    while (performance.now() < until);
+    document.getElementById('interrupt').click();
+    const look = () => document.getElementById('state-name').textContent === 'idle' ? done(count) : setTimeout(look, 10);
+    look();"""
 # Tries what the page's policy forbids, and tells what it has stopped.
 FORBIDDEN = """
     const [elsewhere, done] = arguments, found = [];
@@ -65,9 +76,9 @@ def copied(enter):
 class Files(unittest.TestCase):
     def test_the_site_has_all_files_of_its_own(self):
         """And they name no other host, and insert no text as HTML."""
-        held = {path.name for path in Path(static_site.WEB).iterdir() if path.suffix in (".js", ".css")} - {"sw.js"}
+        held = {path.name for path in Path(static_site.WEB).iterdir() if path.suffix in (".js", ".css")} - {"single.js", "sw.js"}
         self.assertEqual(held, set(maker().OWN))
-        for name in (*held, "sw.js"):
+        for name in (*held, "single.js", "sw.js"):
             text = Path(static_site.WEB, name).read_text(encoding="utf-8")
             self.assertNotRegex(text, r"innerHTML|insertAdjacentHTML|document\.write|\beval\(|https?://", name)
 
@@ -76,10 +87,11 @@ class SitePages(unittest.TestCase):
     """Tests with a browser each class, which may lack something."""
 
     seconds, browser_class, more = 120, Browser, ()
+    host_class = static_site.Site
 
     @classmethod
     def setUpClass(cls):
-        cls.host = cls.enterClassContext(static_site.Site())
+        cls.host = cls.enterClassContext(cls.host_class())
         cls.browser = cls.enterClassContext(cls.browser_class(free_port(), 1250, 1130, *cls.more))
 
     def setUp(self):
@@ -303,6 +315,15 @@ class Sessions(SitePages):
         self.browser.close_window()
         self.says_hello(page)
 
+    def test_room_that_is_used_up(self):
+        page = self.open()
+        page.is_in("idle")
+        limit = functools.partial(self.browser.devtools, "Storage.overrideQuotaForOrigin", origin=self.host.address)
+        self.addCleanup(limit)
+        limit(quotaSize=1)
+        self.says_hello(page)
+        self.bar(page, "The session isn't kept. The browser keeps nothing here, or its room is used up. Work goes on, but ")
+        self.says_hello(page)
 
     def test_a_session_that_is_too_long(self):
         """The board goes on, and says once that it isn't kept. Nothing of it is kept."""
@@ -340,6 +361,36 @@ class Sessions(SitePages):
         page.waits(lambda: not self.moves(page))
         page.browser.size(1250, 1130)
         page.waits(lambda: self.moves(page))
+
+    def test_a_program_waits_for_a_page_that_takes_nothing(self):
+        """Some mebibytes at most are on their way. A page that takes nothing for long loses its connection, and connects again."""
+        page = self.open()
+        page.is_in("idle")
+        page.run_cell(TALKS)
+        page.waits(lambda: len(page.console()) > 10_000)
+        self.assertLess(page.browser.run_later(PARTS % BUSY, 4_000), 8 << 20)
+        page.run_cell(TALKS)
+        page.waits(lambda: len(page.console()) > 10_000)
+        page.run("const until = performance.now() + 12000; while (performance.now() < until);")
+        page.waits(lambda: page.state().startswith("connection lost"))
+        page.is_in("running")
+        page.click("#interrupt")
+        page.is_in("idle")
+        self.says_hello(page)
+
+    def test_a_page_that_the_browser_freezes(self):
+        """As it does with one that nobody has looked at for long."""
+        page = self.stopped()
+        shown = self.shown(page)
+        for state in ("frozen", "active"):
+            self.browser.devtools("Page.setWebLifecycleState", state=state)
+            time.sleep(1)
+        self.assertEqual(self.shown(page), shown)
+        page.command("next")
+        page.stops("step", 5)
+        page.command("continue")
+        page.is_in("idle")
+        self.says_hello(page)
 
     def moves(self, page):
         """Whether BC has changed within some tenths of a second."""
@@ -472,6 +523,9 @@ class Ends(SitePages):
 
     def test_a_damaged_module(self):
         self.ends(lambda data: data[:5000], r"Its file http\S+\.wasm is damaged \(.*\)\. What is written in the cell stays\.$")
+
+    def test_a_module_of_another_program(self):
+        self.ends(lambda data: b"\0asm\1\0\0\0", r"Its file http\S+\.wasm is another program's\. What is written in the cell stays\.$")
 
     def test_out_of_memory(self):
         self.ends(lambda data: with_most(data, 12 << 20), r"Its program has ended with \d+: .*memory.*\. What is written")

@@ -32,9 +32,8 @@ def calls(path):
 
 def arrive(call):
     identities = map(bytes.fromhex, call["identities"])
-    content = json.dumps(call["content"], separators=(",", ":"))
     return item("message", call["channel"], call["connection"], call["moment"], *identities, "<IDS|MSG>", "", call["header"],
-                "{}", "{}", content)
+                "{}", "{}", json.dumps(call["content"]))
 
 
 def item_of(call):

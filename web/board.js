@@ -20,8 +20,8 @@ const moment = () => Math.floor(Date.now() / 1000);
 
 export class Board {
     /** A board with a session, which is played first. The host has `deliver(window, text)`, `opened(window)`,
-     *  `refuse(window, sentence)`, `ended(isRestart)`, `progress(done, all)`, and `keep()` to keep the session; a window is any
-     *  object. */
+     *  `refuse(window, sentence)`, `isBehind()`, which tells whether a window hasn't taken what it was given, `ended(isRestart)`,
+     *  `progress(done, all)`, and `keep()` to keep the session; a window is any object. */
     constructor(session, host) {
         const answer = {word: "", number: 0};
         Object.assign(this, {session, host, answer, plans: [], windows: new Map(), owners: new Map(), texts: []});
@@ -87,7 +87,7 @@ export class Board {
         for (;;) {
             const plan = this.plans.shift();
             if (plan) yield* plan;
-            else if (this.isBusy && !this.isAsleep) yield* this.run(moment());
+            else if (this.isBusy && !this.isAsleep && !this.host.isBehind()) yield* this.run(moment());
             else yield null;
         }
     }

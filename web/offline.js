@@ -1,10 +1,11 @@
 // The service worker of the site's pages: all files are kept for use without a network.
 import {canSuspend} from "./abilities.js";
+import {addressOf} from "./place.js";
 
 const RELOADED = "lab80 isolated";
 
 async function register() {
-    return navigator.serviceWorker.register(new URL("../sw.js", import.meta.url), {updateViaCache: "none"});
+    return navigator.serviceWorker.register(addressOf("sw.js"), {updateViaCache: "none"});
 }
 
 /** Loads the page anew, once, if only the service worker's headers let it run a board. */

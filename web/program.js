@@ -7,17 +7,26 @@ import {Reader, textOf} from "./wire.js";
 const BREATH = 5, NAP = 500;
 
 // Its addresses have 32 bits, which all browsers have; with 64 bits it would be slower.
-export const MODULE = "lab80_web32.wasm";
+export const MODULE = "web/lab80_web32.wasm";
+
+const IMPORTS = ["env.read", "env.write"], EXPORTS = ["main", "memory"];
+
+/** Whether a module has the imports and exports of lab80_web. */
+function isOurs(module) {
+    const has = WebAssembly.Module.exports(module).map(({name}) => name);
+    const wants = WebAssembly.Module.imports(module).map(each => `${each.module}.${each.name}`);
+    return EXPORTS.every(each => has.includes(each)) && wants.every(each => IMPORTS.includes(each));
+}
 
 /** Loads the module. Fails with an Error that says why it can't be used. */
 export async function loadModule(address) {
     const reply = await fetch(address).catch(() => ({ok: false, status: 0}));
     if (!reply.ok) throw new Error(`file ${address} isn't there${reply.status ? ` (${reply.status})` : ""}`);
-    try {
-        return await WebAssembly.compile(await reply.arrayBuffer());
-    } catch (fault) {
+    const module = await WebAssembly.compile(await reply.arrayBuffer()).catch(fault => {
         throw new Error(`file ${address} is damaged (${fault.message})`);
-    }
+    });
+    if (!isOurs(module)) throw new Error(`file ${address} is another program's`);
+    return module;
 }
 
 const pings = new MessageChannel();

@@ -2,6 +2,7 @@
 // have none, or can't suspend a program, each window has a Worker, and a board one window.
 import {Board} from "./board.js";
 import {Receiver} from "./mail.js";
+import {addressOf} from "./place.js";
 import {MODULE, loadModule, runProgram} from "./program.js";
 import {Session} from "./session.js";
 import {dropOld, dropSession, loadSession, saveSession} from "./sessions.js";
@@ -13,7 +14,12 @@ const isShared = "SharedWorkerGlobalScope" in self && self instanceof SharedWork
 // two of these, and after which a window is told that another one has the board.
 const KEEP_EVERY = 500, PROGRESS_AFTER = 1000, PROGRESS_EVERY = 200, ELSEWHERE_AFTER = 2000;
 
-// The windows, by their ports, each with whether it is hidden; and the ports of those that have seen the board end.
+// The most characters that a window hasn't taken before the program waits for it, and the milliseconds in which it must take some
+// then: one that is frozen, or gone without a word, loses its connection.
+const MOST_BEHIND = 4 << 20, PATIENCE = 10000;
+
+// The windows, by their ports, each with whether it is hidden, the characters that it hasn't taken, and when it took some last; and
+// the ports of those that have seen the board end.
 const windows = new Map(), left = new Set();
 const pages = {runsHidden: false, mail: null};
 let board = null, module = null, ending = "";
@@ -54,7 +60,14 @@ function refuseKeeping(why) {
 const host = {
     wake() {},
     keep,
-    deliver: (port, text) => port.postMessage({type: "message", text}),
+    deliver(port, text) {
+        const window = windows.get(port);
+        if (!window) return;
+        if (!isBehind(window)) window.at = performance.now();
+        window.behind += text.length;
+        port.postMessage({type: "message", text});
+    },
+    isBehind: () => [...windows.values()].some(isBehind),
     opened: port => port.postMessage({type: "opened"}),
     refuse(port, why) {
         windows.delete(port);
@@ -63,7 +76,7 @@ const host = {
     ended: isRestart => isRestart ? restart() : end("It was shut down"),
     listen(patience) {
         for (let text = pages.mail.receive(patience); text !== null; text = pages.mail.receive()) take(self, JSON.parse(text));
-        if (performance.now() - keeping.last > KEEP_EVERY) keep();
+        if (performance.now() - keeping.last > KEEP_EVERY) tick();
     },
     progress(done, all) {
         const now = performance.now();
@@ -83,7 +96,7 @@ async function begin(kept) {
     for (const each of windows.keys()) board.join(each);
     noteHidden();
     try {
-        module = module || await loadModule(new URL(MODULE, import.meta.url));
+        module = module || await loadModule(addressOf(MODULE));
         const why = await runProgram(module, board, opening(), host);
         if (!mine.isOver) end(`Its ${why}`);
     } catch (fault) {
@@ -117,6 +130,25 @@ function end(why) {
 
 // ---- windows
 
+const isBehind = ({behind}) => behind > MOST_BEHIND;
+
+/** Drops windows that take nothing. One that comes to itself again connects again. */
+function dropLate() {
+    const now = performance.now();
+    for (const [port, window] of windows) {
+        if (!isBehind(window) || now - window.at < PATIENCE) continue;
+        windows.delete(port);
+        board.leave(port);
+        port.postMessage({type: "lost"});
+        host.wake();
+    }
+}
+
+function tick() {
+    dropLate();
+    keep();
+}
+
 function noteHidden() {
     board.isAsleep = !pages.runsHidden && windows.size > 0 && [...windows.values()].every(each => each.isHidden);
 }
@@ -124,7 +156,7 @@ function noteHidden() {
 const tasks = {
     open(port, {isHidden, runsHidden}) {
         if (ending) return port.postMessage({type: "ended", why: ending});
-        windows.set(port, {isHidden});
+        windows.set(port, {isHidden, behind: 0, at: 0});
         pages.runsHidden = runsHidden;
         if (board) board.join(port);
     },
@@ -137,8 +169,12 @@ const tasks = {
         if (windows.delete(port) && board) board.leave(port);
     },
     seen(port, {isHidden, runsHidden}) {
-        if (windows.has(port)) windows.set(port, {isHidden});
+        if (windows.has(port)) windows.get(port).isHidden = isHidden;
         pages.runsHidden = runsHidden;
+    },
+    taken(port, {count}) {
+        const window = windows.get(port);
+        if (window) Object.assign(window, {behind: window.behind - count, at: performance.now()});
     },
     anew: () => board && beginAnew(),
     ask(port, {number, what}) {
@@ -157,7 +193,7 @@ function take(port, data) {
 // ---- the beginning
 
 // The name of the lock that tells which boards run, and that no two workers give one board's session different items.
-const LOCK = `lab80 ${new URL("..", import.meta.url).pathname} ${self.name}`;
+const LOCK = `lab80 ${addressOf("").pathname} ${self.name}`;
 
 /** Does the work once no other worker has the board. Where there are no locks, or the browser refuses them, at once. */
 async function own(work) {
@@ -178,7 +214,7 @@ async function load() {
     if (!kept) await dropSession(self.name).catch(() => {});
     begin(kept);
     dropOld().catch(() => {});
-    setInterval(keep, KEEP_EVERY);
+    setInterval(tick, KEEP_EVERY);
 }
 
 /** The first message to a Worker of one window. */

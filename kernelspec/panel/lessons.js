@@ -1,6 +1,7 @@
 // The ways from the page to what there is to read: the card of all instructions, and the lessons.
 import {tell} from "./commands.js";
 import {byId} from "./dom.js";
+import {addressBeside} from "./server.js";
 import {transport} from "./transport.js";
 
 /** Opens the lessons. Nothing is asked until somebody wants to go there. */
@@ -11,7 +12,6 @@ async function openLessons() {
 }
 
 export function listenToReading() {
-    const version = new URLSearchParams(location.search).get("v");
-    if (version) byId("to-card").href = `card.html?v=${encodeURIComponent(version)}`;
+    byId("to-card").href = addressBeside("card.html");
     byId("to-lessons").onclick = () => (openLessons(), false);
 }

@@ -2,6 +2,7 @@
 import {identifier} from "../shared.js";
 import {canSuspend} from "../web/abilities.js";
 import {Sender, makeMail} from "../web/mail.js";
+import {isOneFile} from "../web/place.js";
 import {dropSession, keptSessions, loadSession, saveSession} from "../web/sessions.js";
 import {readSetting, saveSetting} from "./dom.js";
 import {addressOn} from "./server.js";
@@ -10,10 +11,14 @@ export const startsAtOnce = true, hasJournal = false;
 
 // A program that can be suspended is run by a SharedWorker, which hears from several windows. Else a window has a worker of its
 // own, which sleeps while it waits for the window.
-const NO_MEMORY = "This browser can run a board only if a service worker has isolated the page. Load the page anew";
+const NO_MEMORY = isOneFile ? "This browser can't suspend programs, and so runs no board of a page that is one file"
+    : "This browser can run a board only if a service worker has isolated the page. Load the page anew";
 const REFUSED = "The browser keeps nothing here, or its room is used up";
 
 const CONNECTING = 0, OPEN = 1, CLOSED = 3;
+
+// After so many characters of messages the worker is told that they were taken; a program waits for a window that takes none.
+const TAKEN = 65536;
 const workers = addressOn("web/worker.js");
 
 // What is told besides messages, each {kernel, type, ..}: `opened`, `ended`, `anew`, `progress`, `unkept`, `elsewhere`, `here`,
@@ -45,9 +50,10 @@ const sockets = new Set();
 // Whether the browser has refused this page a SharedWorker, as it may where it keeps nothing.
 let isRefused = false;
 
-/** The worker of a board that windows share; null where there can't be one. */
+/** The worker of a board that windows share; null where there can't be one. That of a page which is one file has an address in
+ *  this window alone. */
 function sharedWorker(kernel) {
-    if (!canSuspend || isRefused) return null;
+    if (!canSuspend || isRefused || isOneFile) return null;
     try {
         return new SharedWorker(workers, {name: kernel, type: "module"});
     } catch {
@@ -58,7 +64,7 @@ function sharedWorker(kernel) {
 /** What a page has in the place of a WebSocket. */
 class Socket {
     constructor(kernel) {
-        Object.assign(this, {kernel, readyState: CONNECTING, answers: new Map(), asked: 0});
+        Object.assign(this, {kernel, readyState: CONNECTING, answers: new Map(), asked: 0, taken: 0});
         sockets.add(this);
         this.connect().catch(fault => this.end(String(fault.message || fault)));
     }
@@ -79,7 +85,7 @@ class Socket {
         if (!canSuspend && typeof SharedArrayBuffer === "undefined") throw new Error(NO_MEMORY);
         const mail = canSuspend ? null : makeMail(), kept = mail ? await loadSession(this.kernel).catch(() => null) : null;
         if (this.readyState === CLOSED) return;
-        const worker = this.worker = new Worker(workers, {name: this.kernel, type: "module"});
+        const worker = this.worker = new Worker(workers, {name: this.kernel, type: isOneFile ? "classic" : "module"});
         this.sender = null;
         this.listenTo(worker, worker, message => this.end(`Its worker has failed (${message || "it can't be loaded"})`));
         this.give({mail, kept, ...seen()});
@@ -100,14 +106,23 @@ class Socket {
 
     hear(told) {
         const {type} = told;
-        if (type === "message") return this.onmessage && this.onmessage({data: told.text});
+        if (type === "message") return this.take(told.text);
         if (type === "opened") return this.open();
         if (type === "answer") return this.settle(told);
         if (type === "save") return saveSession(this.kernel, told.changes).catch(() => this.drop(REFUSED));
         if (type === "unkept" && this.sender) return this.drop(told.why);
         if (type === "restart") return this.restart();
+        if (type === "lost") return this.lose();
         if (type === "ended" || type === "refused") return this.end(told.why);
         return tell(this.kernel, told);
+    }
+
+    take(text) {
+        if (this.onmessage) this.onmessage({data: text});
+        this.taken += text.length;
+        if (this.taken < TAKEN) return;
+        this.give({type: "taken", count: this.taken});
+        this.taken = 0;
     }
 
     open() {
@@ -143,7 +158,7 @@ class Socket {
         await dropSession(this.kernel).catch(() => {});
     }
 
-    /** Puts a new worker in the place of one that has ended for a restart. */
+    /** Puts a new worker in the place of one whose board begins anew. */
     async restart() {
         this.worker.terminate();
         await dropSession(this.kernel).catch(() => {});
@@ -153,6 +168,11 @@ class Socket {
     end(why) {
         ends.set(this.kernel, why);
         tell(this.kernel, {type: "ended", why});
+        this.shut();
+        if (this.onclose) this.onclose({});
+    }
+
+    lose() {
         this.shut();
         if (this.onclose) this.onclose({});
     }
@@ -186,8 +206,9 @@ export const has = async kernel => ({hasEnded: ends.has(kernel), isShut: false, 
 export async function beginAnew(kernel) {
     const shared = sharedWorker(kernel);
     if (shared) return shared.port.postMessage({type: "anew"});
-    for (const each of sockets) if (each.kernel === kernel) each.shut();
-    await dropSession(kernel).catch(() => {});
+    const waiting = [...sockets].filter(each => each.kernel === kernel);
+    if (waiting.length === 0) await dropSession(kernel).catch(() => {});
+    for (const each of waiting) await each.restart();
     tell(kernel, {type: "anew"});
 }
 
@@ -228,8 +249,10 @@ export const lessons = async () => ({address: addressOn(document.documentElement
 // A whole address has a mebibyte at most, which is what Firefox takes.
 export const MOST_SHARED = (1 << 20) - addressOn("").href.length - "#cell=".length;
 
+const HERE = "the address is that of this page's file. On another computer it opens where the file has the same place";
+
 export function addressWith(letters) {
     const address = addressOn("");
     address.hash = `cell=${letters}`;
-    return {address, isOwn: true, warning: ""};
+    return {address, isOwn: true, warning: isOneFile ? HERE : ""};
 }

@@ -1,14 +1,16 @@
 -- The laws of sessions.
-use Rattle.std.proofs.Common.{◌≡◌, ◌∙◌, ℕ, zero, suc, ◌<◌, List, [], ◌∷◌, ◌++◌, map, fold, true}
+use Rattle.std.proofs.Common.{◌≡◌, ◌↔◌, ◌∙◌, ℕ, zero, suc, ◌<◌, List, [], ◌∷◌, ◌++◌, length, map, fold}
 use Rattle.std.specs.Prelude.{codes}
-use Rattle.std.proofs.Common.{refl, sym, ap, arith, filter_map, append-nil, append_assoc}
+use Rattle.std.proofs.Common.{Bool, true, false, refl, sym, ap, arith, filter_map, append-nil, append_assoc}
 use Rattle.std.proofs.lemmas.List.Elements.{filter_map-append}
+use Rattle.std.proofs.lemmas.Bool.{false≢true}
 use Rattle.std.proofs.lemmas.List.Sums.{fold-append}
 use Rattle.zmtp_wire.specs.Wire.{Bytes, Frames, Messages}
 use Rattle.zmtp_wire.specs.Writing.{message_bytes}
 use Rattle.zmtp_wire.specs.declared.peer_fault.PeerFault.{PeerFault}
 use Rattle.zmtp_wire.proofs.FeedLemmas.{one_state}
 use Rattle.kern_post.specs.declared.post.Post.{Post}
+use Rattle.kern_calls.specs.declared.call.Call.{Call}
 use Rattle.kern_calls.specs.declared.call.Call.TheVariants.{Slice}
 use Rattle.kern_core.specs.States.{KernelState, kernel_before_calls}
 use Rattle.kern_core.specs.Turns.{next, state_after}
@@ -20,12 +22,13 @@ use Rattle.lab80_web.specs.declared.items.Item.TheVariants as item
 use Rattle.lab80_web.specs.Answers.{answer_of, is_more}
 use Rattle.lab80_web.specs.Items.{item_of}
 use Rattle.lab80_web.specs.Outputs.{Output, OfPost, OfAnswer, IsMessageOf, IsStreamOf, connections_frame}
-use Rattle.lab80_web.specs.Session.{last_answer, answer_to, posts_since, state_after_item, calls_of}
-use Rattle.lab80_web.specs.Session.{outputs_of_item, state_after_message, state_after_messages, outputs_from}
+use Rattle.lab80_web.specs.Session.{slices, last_answer, answer_to, answer_to_call, posts_since, calls_of}
+use Rattle.lab80_web.specs.Session.{state_after_item, outputs_of_item, state_after_message}
+use Rattle.lab80_web.specs.Session.{state_after_messages, outputs_from}
 use Rattle.lab80_web.specs.Serving.{Spells}
-use Rattle.lab80_web.specs.Laws.{post_in, calls_in}
+use Rattle.lab80_web.specs.Laws.{post_in, calls_in, AreAllMore}
 use Rattle.lab80_web.proofs.SessionLemmas.{IsGrown, grown_calls, grown_on, grown_same, since_is, since_same}
-use Rattle.lab80_web.proofs.SessionLemmas.{slices_over, last_on, last_none}
+use Rattle.lab80_web.proofs.SessionLemmas.{no_slices, slices_on, slices_over, last_on, last_none, more_is}
 
 -- ---- one output
 
@@ -96,6 +99,45 @@ pub all_posts : (messages : Messages) → filter_map post_in (outputs_from kerne
 all_posts messages =
     posts_from messages kernel_before_calls
     ∙ ap (λ (s : KernelState). s.posts) (calls_fold messages kernel_before_calls)
+
+-- ---- runs
+
+all_more : (t n : ℕ) (s : KernelState) → last_answer answer.More (slices t n s) s ≡ answer.More
+    → AreAllMore (slices t n s) s × (length (slices t n s) ≡ n)
+all_more t zero s e = rw (no_slices t s) (tt, refl)
+all_more t (suc n) s e = by (is_more (answer_to_call (Slice t) s)) refl
+  where
+    by : (b : Bool) → is_more (answer_to_call (Slice t) s) ≡ b
+        → AreAllMore (slices t (suc n) s) s × (length (slices t (suc n) s) ≡ suc n)
+    by true h =
+        let here = slices_on t n s h in
+        let is = more_is _ h in
+        let mid = next s (Slice t) in
+        let last : last_answer answer.More (slices t n mid) mid ≡ answer.More =
+        ap (λ a. last_answer a (slices t n mid) mid) (sym is)
+        ∙ sym (ap (λ calls. last_answer answer.More calls s) here ∙ last_on answer.More (Slice t) _ s) ∙ e in
+        let rest = all_more t n mid last in
+        rw here ((is, rest.0), ap suc rest.1)
+    by false h =
+        let here = slices_over t n s h in
+        let last = ap (λ calls. last_answer answer.More calls s) here
+        ∙ last_on answer.More (Slice t) [] s ∙ last_none _ (next s (Slice t)) in
+        absurd (false≢true (sym h ∙ ap is_more (sym last ∙ e)))
+
+more_last : (calls : List Call) (s : KernelState) → AreAllMore calls s
+    → last_answer answer.More calls s ≡ answer.More
+more_last [] s all = last_none answer.More s
+more_last (call ∷ calls) s all =
+    last_on answer.More call calls s ∙ ap (λ a. last_answer a calls (next s call)) all.0
+    ∙ more_last calls (next s call) all.1
+
+pub run_is_more : (s : KernelState) (t count : ℕ) → (answer_to (item.Run t count) s ≡ answer.More)
+    ↔ AreAllMore (calls_of (item.Run t count) s) s
+run_is_more s t count = (λ e. (all_more t count s e).0, more_last (slices t count s) s)
+
+pub run_is_whole : (s : KernelState) (t count : ℕ) → answer_to (item.Run t count) s ≡ answer.More
+    → length (calls_of (item.Run t count) s) ≡ count
+run_is_whole s t count e = (all_more t count s e).1
 
 -- ---- after a shutdown
 

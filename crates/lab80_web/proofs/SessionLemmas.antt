@@ -69,11 +69,11 @@ since_on s t u (m, e) (n, f) =
 
 -- ---- the Slices of a run
 
-no_slices : (t : ℕ) (s : KernelState) → slices t 0 s ≡ []
+pub no_slices : (t : ℕ) (s : KernelState) → slices t 0 s ≡ []
 unfolding slices
 no_slices t s = refl
 
-slices_on : (t n : ℕ) (s : KernelState) → is_more (answer_to_call (Slice t) s) ≡ true
+pub slices_on : (t n : ℕ) (s : KernelState) → is_more (answer_to_call (Slice t) s) ≡ true
     → slices t (suc n) s ≡ Slice t ∷ slices t n (next s (Slice t))
 unfolding slices
 slices_on t n s more = rw more refl
@@ -126,7 +126,7 @@ run_first t count s kernel outlet r w =
 left_suc : (count made : ℕ) → made < count → count - made ≡ suc (count - (made + 1))
 left_suc count made h = omega arith
 
-more_is : (a : Answer) → is_more a ≡ true → a ≡ answer.More
+pub more_is : (a : Answer) → is_more a ≡ true → a ≡ answer.More
 more_is answer.More e = refl
 more_is (answer.Joined n) e = absurd (false≢true e)
 more_is answer.Left e = absurd (false≢true e)

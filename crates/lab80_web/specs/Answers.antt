@@ -15,7 +15,8 @@ abbrev pub lacks_memory : Result Reply KernelFault → Bool
 lacks_memory (Err fault.OutOfMemory) = true
 lacks_memory _ = false
 
--- the answer to an item whose last call was answered so; the last case is that of a Fetch, which no item is
+-- The answer to an item whose last call was answered so. The last case is reached by no item: only a Fetch is
+-- answered Fetched or Lagged; without a journal none is full; and where memory runs out the program ends.
 abbrev pub answer_of : Result Reply KernelFault → Answer
 answer_of (Ok (reply.Joined connection from)) = answer.Joined connection
 answer_of (Ok reply.Left) = answer.Left
