@@ -1,6 +1,6 @@
-// A program that an editor launches (Debug Adapter Protocol, `launch` and `restart`), until it begins: the
-// text of its file, or why there is none (`file`); the program on a board of its own, or why it can't be
-// loaded (`load`); how it begins (`program`); and the messages about it (`opening`, `failure`). By `laws` a
+// A program that an editor launches (Debug Adapter Protocol, `launch` and `restart`), until it begins.
+// `file` has the text of its file, or why there is none; `load` puts the program on a board of its own, or
+// says why it can't; `program` begins it; `opening` and `failure` have the messages about it. By `laws` a
 // program without source is launched with all its bytes.
 #![tactic(auto)]
 
