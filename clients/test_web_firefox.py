@@ -57,6 +57,22 @@ class Seeing(InFirefox, test_web_panel.Seeing):
     pass
 
 
+@only("a_slider_over_the_stops")
+class Timeline(InFirefox, test_web_panel.Timeline):
+    pass
+
+
+@only("each_step_is_explained")
+class Explained(InFirefox, test_web_panel.Explained):
+    pass
+
+
+@only("a_film_plays_alone", "keys_and_playing", "a_film_is_opened_by_the_page", "films_that_cant_be_played",
+      "hostile_texts_in_a_film")
+class Film(InFirefox, test_web_panel.Film):
+    pass
+
+
 @only("without_the_server", "boards_of_this_browser")
 class Visits(InFirefox, test_web_site.Visits):
     pass

@@ -7,6 +7,7 @@ import static_site
 import test_panel
 import test_panel_anew
 import test_panel_beside
+import test_panel_film
 import test_panel_programs
 import test_panel_restore
 import test_panel_seeing
@@ -86,6 +87,18 @@ class Restored(OnSite, test_panel_restore.Restored):
 
 
 class Beside(OnSite, test_panel_beside.Beside):
+    pass
+
+
+class Timeline(OnSite, test_panel_film.Timeline):
+    pass
+
+
+class Explained(OnSite, test_panel_film.Explained):
+    pass
+
+
+class Film(OnSite, test_panel_film.Film):
     pass
 
 

@@ -31,6 +31,16 @@ export function turns() {
     return work => (last = last.then(work, work));
 }
 
+/** Returns a function that does some work once, however often it is called by what goes on now, and after that. */
+export function afterwards(work) {
+    let isDue = false;
+    return () => {
+        if (isDue) return;
+        isDue = true;
+        queueMicrotask(() => { isDue = false; work(); });
+    };
+}
+
 /** Asks a question with two answers. Returns whether the answer was yes. */
 export function ask(text, yes) {
     const question = byId("question");
