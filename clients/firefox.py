@@ -14,6 +14,9 @@ from browser import PATIENCE, Browser, wait_until
 
 PROGRAM = "firefox-esr"
 
+# The most seconds that it may take to start, some hundred times what it takes on an idle machine.
+STARTS = 270
+
 # WebDriver's commands as Marionette names them. A star stands for an element's reference or a cookie's name.
 COMMANDS = {
     "POST /url": "Navigate",
@@ -86,9 +89,11 @@ class Firefox(Browser):
         self.used, self.number, self.heard = "", 0, b""
         self.keeper = self.start(port, width, height)
         try:
-            self.wire = wait_until(lambda: self.connect(port))
+            self.wire = wait_until(lambda: self.connect(port), STARTS)
+            self.wire.settimeout(STARTS)
             self.receive()
             self.command("WebDriver:NewSession", {"timeouts": {"script": 1_000 * PATIENCE}})
+            self.wire.settimeout(PATIENCE + 10)
             self.size(width, height)
         except BaseException:
             self.end()

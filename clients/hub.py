@@ -32,6 +32,11 @@ mount -t overlay lab80 -o ro,lowerdir="$0/usr":/usr /usr &&
 for folder in /home /run /var/lib /var/log; do mount -t tmpfs -o mode=755 lab80 "$folder" || exit; done &&
 exec "$@"
 """
+# Serves a class, and serves it again where a restart was asked for, as systemd does.
+SERVES = """
+mkdir -p {state} && cp "$0/more" {state}/more_config.py || exit
+while {deploy}/begin --serve "$0/list"; [ -e "$0/again" ]; do rm "$0/again"; done"""
+
 APART = ["unshare", "--mount", "--pid", "--fork", "--kill-child", "--mount-proc"]
 
 # Ends a command with the process that started it.
@@ -88,7 +93,7 @@ class Hub:
             file.write(people)
         with open(os.path.join(folder, "more"), "w", encoding="utf-8") as file:
             file.write(more)
-        begin = f'mkdir -p {STATE} && cp "$0/more" {STATE}/more_config.py && exec {DEPLOY}/begin --serve "$0/list"'
+        begin = SERVES.format(state=STATE, deploy=DEPLOY)
         # Node of another maker than Debian doesn't search the folder of Debian's modules.
         self.environment = {"PATH": "/usr/sbin:/usr/bin:/sbin:/bin", "LANG": "C.UTF-8", "HOME": "/root",
                             "NODE_PATH": "/usr/share/nodejs", "LAB80_HUB": self.base}
@@ -139,6 +144,19 @@ class Hub:
             except OSError:
                 pass
         return found
+
+    def process_of(self, word):
+        """The number of the hub's process whose command has a word."""
+        [found] = [process for process in self.processes() if any(word in each for each in command_of(process))]
+        return found
+
+    def restart(self, sign):
+        """Ends the hub with a signal, and waits until it serves again. The students' servers are left alone."""
+        before = self.process_of("jupyterhub_config.py")
+        with open(os.path.join(self.folder, "again"), "w", encoding="ascii"):
+            os.kill(before, sign)
+        wait_until(lambda: not os.path.exists(f"/proc/{before}"), 60)
+        wait_until(lambda: Visitor(self).ask("GET", "/hub/api/")[0] == 200, 240)
 
     def call(self, *words):
         """Runs a command in the hub's place. Returns its status and what it prints."""
@@ -241,6 +259,15 @@ class Visitor:
 
     def boards(self):
         return json.loads(self.ask("GET", self.at("api/kernels"))[2])
+
+
+def command_of(process):
+    """The words of a process's command."""
+    try:
+        with open(f"/proc/{process}/cmdline", encoding="utf-8", errors="replace") as file:
+            return file.read().split("\0")[:-1]
+    except OSError:
+        return []
 
 
 def held(process):

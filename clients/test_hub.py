@@ -11,7 +11,7 @@ import unittest
 import hub
 from browser import Browser, wait_until
 from lab80_client import HELLO
-from panel_page import Page, keep_picture
+from panel_page import Page
 from ports import free_port
 
 STUDENTS = [f"s{number:02}" for number in range(1, 31)]
@@ -100,14 +100,13 @@ class Class(unittest.TestCase):
     def test_the_class_page_shows_each_student(self):
         rows = self.rows()
         self.assertEqual(sorted(rows), STUDENTS)
-        self.assertEqual(rows["s01"], ["runs", NOTEBOOK, "idle", "0"])
+        self.assertEqual(rows["s01"], ["runs", NOTEBOOK, "idle", "", "0"])
 
     def test_names_on_the_class_page_are_text(self):
         name = "<b>&\"'.ipynb"
         self.class_["s05"].start_board(name)
-        page = self.teacher.page("/services/class/")[2]
-        self.assertNotIn("<b>", page)
-        self.assertIn(f">{html.escape(name)}<", page)
+        wait_until(lambda: f">{html.escape(name)}<" in self.teacher.page("/services/class/")[2])
+        self.assertNotIn("<b>", self.teacher.page("/services/class/")[2])
 
     def test_the_class_page_is_for_teachers(self):
         self.assertEqual(self.class_["s01"].page("/services/class/")[0], 403)
@@ -133,9 +132,10 @@ class Class(unittest.TestCase):
         self.assertEqual((status, late), (0, "late"))
         visitor = hub.Visitor(self.hub).log_in(late, word)
         self.assertEqual(visitor.name, "late")
-        self.assertEqual(self.rows()["late"], ["doesn't run", "", "", ""])
+        # the servers are asked every fifteen seconds
+        wait_until(lambda: self.rows().get("late") == ["doesn't run", "", "", "", ""])
         self.assertEqual(self.hub.change_class(LIST)[0], 0)
-        self.assertNotIn("late", self.rows())
+        wait_until(lambda: "late" not in self.rows())
         wait_until(lambda: visitor.page("/hub/home")[1] == "/hub/login")
         self.assertEqual([board["id"] for board in self.class_["s01"].boards()], [self.boards["s01"]])
 
@@ -184,11 +184,10 @@ class Class(unittest.TestCase):
 
     def test_a_teacher_opens_a_students_board(self):
         self.run_in_notebook("s04", ENDLESS)
-        self.assertEqual(self.rows()["s04"][:3], ["runs", NOTEBOOK, "runs or waits"])
+        wait_until(lambda: self.rows()["s04"][:3] == ["runs", NOTEBOOK, "runs or waits"])
         with Browser(free_port(), 1000, 1100) as browser:
             self.log_in(browser, "/services/class/", "teacher")
             wait_until(lambda: where(browser) == "/services/class/")
-            keep_picture(browser, "hub-class", "body")
             browser.run("document.querySelector('a[href*=\"/user/s04/\"]').click()")
             wait_until(lambda: "oauth" in where(browser))
             browser.run(AUTHORIZE)

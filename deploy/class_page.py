@@ -1,98 +1,156 @@
-"""The class page, a service of the hub for teachers alone: each student, whether the server runs, and the boards there with a
-link to each panel. It needs no JavaScript, and its requests count as nobody's activity, so they keep no forgotten board."""
+"""The class page, a service of the hub for teachers alone: each student, whether the server runs, and the boards there, with what
+they do, their lamps and a link to each panel. What it asks keeps no forgotten board: it looks only at boards on which somebody
+has a page, and only while a teacher sees this one."""
 import asyncio
+import base64
+import hashlib
 import html
-import json
 import os
 import pathlib
-import urllib.parse
+import string
+import time
 
 from jupyterhub.services.auth import HubOAuthCallbackHandler, HubOAuthenticated
-from tornado.httpclient import AsyncHTTPClient, HTTPError
+from tornado.httpclient import HTTPError
 from tornado.web import RequestHandler, authenticated
 
-PREFIX, API = os.environ["JUPYTERHUB_SERVICE_PREFIX"], os.environ["JUPYTERHUB_API_URL"]
-PROXY, STUDENTS = os.environ["LAB80_PROXY"], pathlib.Path(os.environ["LAB80_STATE"], "students")
-LET_IN = {"Authorization": "token " + os.environ["JUPYTERHUB_API_TOKEN"], "Accept": "application/json"}
+import class_boards
+from class_watch import Watch
 
-# The seconds between two views, and the most for an answer of a server; the most users whom the hub names at once.
-AGAIN, PATIENCE, MOST = 15, 10, 200
+PREFIX, STUDENTS = os.environ["JUPYTERHUB_SERVICE_PREFIX"], pathlib.Path(os.environ["LAB80_STATE"], "students")
+HERE = pathlib.Path(__file__).resolve().parent
+PAGE, SCRIPT = string.Template((HERE / "class_page.html").read_text("utf-8")), (HERE / "class_page.js").read_text("utf-8")
+DIGEST = base64.b64encode(hashlib.sha256(SCRIPT.encode()).digest()).decode()
+POLICY = f"default-src 'none'; style-src 'unsafe-inline'; script-src 'sha256-{DIGEST}'; connect-src 'self'; frame-ancestors 'none'"
 
-AsyncHTTPClient.configure(None, max_clients=20)
+# The seconds between two questions to the servers, and those after which nobody sees the page any more: without its script, it is
+# asked for every fifteen seconds, and else every five.
+AGAIN, STAYS = 15, 40
 
-STATES = {"busy": "runs or waits", "idle": "idle", "dead": "has ended"}
-
-PAGE = """<!DOCTYPE html>
-<html lang="en"><head><meta charset="utf-8"><meta http-equiv="refresh" content="{again}"><title>The class</title><style>
-body {{ font: 16px sans-serif; margin: 2em; color-scheme: light dark }}
-td, th {{ text-align: left; padding: .25em 1.5em .25em 0; border-bottom: 1px solid #8886 }}
-.busy td:nth-child(4) {{ font-weight: bold }}
-</style></head><body><h1>The class</h1><p>{sum}</p>
-<table>
-<tr><th>Student</th><th>Server</th><th>Board</th><th>State</th><th>Pages</th></tr>
-{rows}
-</table>
-<p>A board that waits for a key or a button counts as running. Where a student's page is Notebook 6, a board that runs is called
-idle while a panel looks at it. Pages are those open on the board. This page is made anew every {again} seconds.</p></body></html>
-"""
+WORDS = {"busy": "runs or waits", "dead": "has ended", "starting": "starts", "restarting": "starts", "autorestarting": "starts"}
 
 
-async def ask(address):
-    reply = await AsyncHTTPClient().fetch(address, headers=LET_IN, connect_timeout=PATIENCE, request_timeout=PATIENCE)
-    return json.loads(reply.body)
+class Room:
+    """The class as it was found last, and the watches of its boards."""
+
+    def __init__(self):
+        self.students, self.watches, self.counted = {}, {}, set()
+        self.found = self.seen = float("-inf")
+        self.finding = asyncio.Lock()
+        self.closing = None
+
+    async def look(self):
+        """Somebody sees the page: what was found some time ago is found anew."""
+        self.seen = time.monotonic()
+        async with self.finding:
+            if time.monotonic() - self.found >= AGAIN:
+                await self.find()
+        if not self.closing or self.closing.done():
+            self.closing = asyncio.ensure_future(self.close())
+
+    async def find(self):
+        counted = {key for key, watch in self.watches.items() if watch.is_open()}
+        known, names = await class_boards.servers(), sorted(STUDENTS.read_text(encoding="utf-8").split())
+        found = await asyncio.gather(*(class_boards.student(name, known.get(name)) for name in names))
+        self.students, self.counted = dict(zip(names, found)), counted
+        self.found = time.monotonic()
+        await self.watch()
+
+    async def watch(self):
+        """Watches the boards on which a page is open."""
+        wanted = {(name, board.id): board for name, student in self.students.items() for board in student.boards
+                  if self.pages(name, board) > 0}
+        for key in [key for key, watch in self.watches.items() if key not in wanted or watch.has_ended()]:
+            self.watches.pop(key).close()
+        for key in wanted.keys() - self.watches.keys():
+            self.watches[key] = Watch(wanted[key], await class_boards.tokens.of(key[0]))
+
+    def pages(self, name, board):
+        """How many pages are open on a board. The server counts the watch too, if there was one."""
+        return max(0, board.pages - ((name, board.id) in self.counted))
+
+    async def close(self):
+        """Ends all watches once nobody sees the page."""
+        while time.monotonic() - self.seen < STAYS:
+            await asyncio.sleep(1)
+        for watch in self.watches.values():
+            watch.close()
+        self.watches.clear()
+        self.found = float("-inf")
+
+    def rows(self):
+        return "\n".join(line for name, student in self.students.items() for line in self.rows_of(name, student))
+
+    def rows_of(self, name, student):
+        """The rows of a student: one for each board, or one without."""
+        if not student.boards:
+            return [row(name, student.server)]
+        return [self.row_of(name, student, board) for board in student.boards]
+
+    def row_of(self, name, student, board):
+        watch = self.watches.get((name, board.id))
+        state = watch and watch.state() or board.state
+        link = f'<a href="{html.escape(board.panel)}">{html.escape(board.path)}</a>'
+        return row(name, student.server, link, state, lamps(watch and watch.lamps), self.pages(name, board))
+
+    def sum(self):
+        with_server = sum(student.server == "runs" for student in self.students.values())
+        count = len(self.students)
+        return f"{count} student{'s' * (count != 1)}, {with_server} with a server."
 
 
-async def servers():
-    """The hub's users with what it tells of their servers, by name."""
-    found, more = {}, True
-    while more:
-        users = await ask(f"{API}/users?limit={MOST}&offset={len(found)}")
-        more = len(users) == MOST
-        found |= {user["name"]: user.get("servers", {}).get("") for user in users}
-    return found
+def row(name, server, board="", state="", shown="", pages=""):
+    fields = html.escape(name), server, board, WORDS.get(state, state), shown, pages
+    return f'<tr class="{state}">' + "".join(f"<td>{field}</td>" for field in fields) + "</tr>"
 
 
-async def boards(server):
-    """The boards on a server that runs: names, states, pages and addresses; None if it doesn't answer."""
-    at = PROXY + server["url"]
-    try:
-        kernels, sessions = await asyncio.gather(ask(f"{at}api/kernels?no_track_activity=1"),
-                                                 ask(f"{at}api/sessions?no_track_activity=1"))
-    except (HTTPError, OSError, ValueError):
-        return None
-    paths = {each["kernel"]["id"]: each["path"] for each in sessions if each.get("kernel")}
-    return [(paths.get(kernel["id"], "without a notebook"), kernel["execution_state"], kernel["connections"],
-             f"{server['url']}kernelspecs/lab80/panel.html?kernel={urllib.parse.quote(kernel['id'])}")
-            for kernel in kernels if kernel["name"] == "lab80"]
+def lamps(byte):
+    """The lamps of a byte, the highest bit first, and its digits."""
+    if byte is None:
+        return ""
+    lit = "".join(f'<i class="{"on" if byte >> bit & 1 else "off"}"></i>' for bit in range(7, -1, -1))
+    return f'<span class="lamps" role="img" aria-label="{byte:02X} hexadecimal">{lit}</span> <code>{byte:02X}</code>'
 
 
-async def student(name, server):
-    """The rows of a student."""
-    if not server or not server["ready"]:
-        return [row(name, "starts or stops" if server and server["pending"] else "doesn't run")]
-    found = await boards(server)
-    if not found:
-        return [row(name, "doesn't answer" if found is None else "runs")]
-    return [row(name, "runs", f'<a href="{html.escape(address)}">{html.escape(path)}</a>', state, pages)
-            for path, state, pages, address in found]
+room = Room()
 
 
-def row(name, server, board="", state="", pages=""):
-    fields = html.escape(name), server, board, html.escape(STATES.get(state, state)), html.escape(str(pages))
-    return f'<tr class="{html.escape(state)}">' + "".join(f"<td>{field}</td>" for field in fields) + "</tr>"
+class Seen(HubOAuthenticated, RequestHandler):
+    """Only who has the scope access:services!service=class gets here."""
+
+    async def is_found(self):
+        """Whether the class is known. If it isn't, the answer says so."""
+        self.set_header("Cache-Control", "no-store")
+        self.set_header("Content-Security-Policy", POLICY)
+        try:
+            await room.look()
+        except (HTTPError, OSError):
+            self.set_status(503)
+            self.finish("The hub doesn't answer.")
+            return False
+        return True
 
 
-class ClassPage(HubOAuthenticated, RequestHandler):
+class ClassPage(Seen):
     @authenticated
     async def get(self):
-        """Only who has the scope access:services!service=class gets here."""
-        known = await servers()
-        names = STUDENTS.read_text(encoding="utf-8").split()
-        rows = sum(await asyncio.gather(*(student(name, known.get(name)) for name in sorted(names))), [])
-        count = sum(bool(known.get(name)) for name in names)
-        self.set_header("Cache-Control", "no-store")
-        self.set_header("Content-Security-Policy", "default-src 'none'; style-src 'unsafe-inline'; frame-ancestors 'none'")
-        self.finish(PAGE.format(again=AGAIN, sum=f"{len(names)} student{'s' * (len(names) != 1)}, {count} with a server.", rows="\n".join(rows)))
+        if await self.is_found():
+            word = html.escape(self.word())
+            self.finish(PAGE.substitute(sum=room.sum(), rows=room.rows(), script=SCRIPT, again=AGAIN, word=word))
+
+    def word(self):
+        """What JupyterHub, since 4.1, wants to see again with every request of a script. To read it sets its cookie."""
+        return self.xsrf_token.decode() if hasattr(self.hub_auth, "check_xsrf_cookie") else ""
 
 
-HANDLERS = [(PREFIX, ClassPage), (PREFIX + "oauth_callback", HubOAuthCallbackHandler)]
+class Rows(Seen):
+    """What of the page changes, for its script."""
+
+    async def get(self):
+        if not self.current_user:
+            self.set_status(403)
+        elif await self.is_found():
+            self.finish({"sum": room.sum(), "rows": room.rows()})
+
+
+HANDLERS = [(PREFIX, ClassPage), (PREFIX + "rows", Rows), (PREFIX + "oauth_callback", HubOAuthCallbackHandler)]

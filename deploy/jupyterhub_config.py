@@ -117,15 +117,19 @@ c.Spawner.args = [f"--MappingKernelManager.cull_idle_timeout={FORGOTTEN}", f"--M
 if is_notebook_6:
     c.Spawner.environment = {"JUPYTERHUB_SINGLEUSER_APP": "notebook.notebookapp.NotebookApp"}
 
-# A teacher sees who is there, starts and ends servers, and opens them. The class page may look at them, for teachers alone.
+# A hub that is restarted, or ends by a fault, ends nobody's board. The class page's service goes with it, for its port.
+c.JupyterHub.cleanup_servers = False
+
+# A teacher sees who is there, starts and ends servers, and opens them. The class page, for teachers alone, looks at a student's
+# server with a token that opens no other.
 c.JupyterHub.services = [{
     "name": "class", "url": f"http://127.0.0.1:{PORT + 82}", "user": "nobody", "cwd": "/", "oauth_no_confirm": True,
-    "command": [sys.executable, "-B", str(HERE / "class_service.py")],
+    "command": ["/usr/bin/setpriv", "--pdeathsig", "TERM", sys.executable, "-B", str(HERE / "class_service.py")],
     "environment": {"LAB80_STATE": str(class_file.FOLDER), "LAB80_PROXY": f"http://127.0.0.1:{PORT}"}}]
 c.JupyterHub.load_roles = [
     {"name": "teachers", "groups": ["teachers"],
      "scopes": ["admin-ui", "list:users", "admin:servers", "access:servers", "access:services!service=class"]},
-    {"name": "class-page", "services": ["class"], "scopes": ["list:users", "read:servers", "access:servers"]}]
+    {"name": "class-page", "services": ["class"], "scopes": ["list:users", "read:servers", "tokens"]}]
 
 if (class_file.FOLDER / "more_config.py").exists():
     load_subconfig(str(class_file.FOLDER / "more_config.py"))
