@@ -10,6 +10,7 @@ import unittest.mock
 import firefox
 import test_panel
 import test_panel_anew
+import test_panel_devices
 import test_panel_programs
 import test_panel_restore
 import test_panel_seeing
@@ -77,6 +78,16 @@ class Walk(InFirefox, test_panel_walk.Walk):
 @only("files", "addresses_with_a_program", "drafts_are_kept", "keys_of_the_cell", "the_focus_is_never_beneath_the_head",
       "errors_in_words_at_their_place", "cards_on_hover_and_focus")
 class Programs(InFirefox, test_panel_programs.Programs):
+    pass
+
+
+@only("screens_of_dots", "digits_and_segments", "what_the_user_chooses_is_kept_for_the_program")
+class Devices(InFirefox, test_panel_devices.Devices):
+    pass
+
+
+@only("arrows_press_buttons", "the_keypad_types", "a_bell_is_heard_and_seen")
+class Keys(InFirefox, test_panel_devices.Keys):
     pass
 
 

@@ -72,10 +72,13 @@ GIVEN = {
     ("12-project", 1): ring,
     ("12-project", 2): ring,
     ("12-project", 3): lambda chance: {"H": chance.randrange(8), "L": chance.randrange(8)},
+    ("13-game", 1): lambda chance: {"bytes": bytes(byte(chance) for _ in range(7))},
+    ("13-game", 2): lambda chance: {"B": chance.randrange(2)},
+    ("13-game", 3): lambda chance: {"A": chance.choice((0, 1 << chance.randrange(8))), "D": int(str(chance.randrange(100)), 16)},
 }
 
 # The exercises that are called themselves and not as their judges in the notebooks do, and what is asked then.
-CALLED = {("04-memory", 3): ("FILL", "bytes")}
+CALLED = {("04-memory", 3): ("FILL", "bytes"), ("13-game", 1): ("FALL", "bytes")}
 
 FLAGS = {"c": "cy", "z": "z", "s": "s"}
 

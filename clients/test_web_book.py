@@ -173,7 +173,7 @@ class Lessons(Pages):
         self.browser.open(f"{self.site.address}/book/index.html")
         self.shows("[data-lesson='01-registers']", "3 of 3")
         self.shows("[data-lesson='02-flags']", "")
-        self.shows("#done", "3 of 36 exercises are right.")
+        self.shows("#done", "3 of 39 exercises are right.")
         self.open("01-registers")
         self.forget()
         self.assertEqual(self.text("#done"), "")

@@ -52,6 +52,16 @@ class Programs(InFirefox, test_web_panel.Programs):
     pass
 
 
+@only("screens_of_dots", "a_running_program_is_followed")
+class Devices(InFirefox, test_web_panel.Devices):
+    pass
+
+
+@only("arrows_press_buttons")
+class Keys(InFirefox, test_web_panel.Keys):
+    pass
+
+
 @only("the_map_of_memory", "bases")
 class Seeing(InFirefox, test_web_panel.Seeing):
     pass

@@ -7,6 +7,7 @@ import static_site
 import test_panel
 import test_panel_anew
 import test_panel_beside
+import test_panel_devices
 import test_panel_film
 import test_panel_programs
 import test_panel_restore
@@ -73,6 +74,18 @@ class Programs(OnSite, test_panel_programs.Programs):
 
 
 class Seeing(OnSite, test_panel_seeing.Seeing):
+    pass
+
+
+class Devices(OnSite, test_panel_devices.Devices):
+    pass
+
+
+class Keys(OnSite, test_panel_devices.Keys):
+    pass
+
+
+class Examples(OnSite, test_panel_devices.Examples):
     pass
 
 

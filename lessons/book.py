@@ -135,8 +135,8 @@ class Book:
     def page(self):
         return "\n".join([
             '<!DOCTYPE html>\n<html lang="en">\n<head>\n<meta charset="utf-8">',
-            '<meta name="viewport" content="width=device-width">', "<title>The Intel 8080 in twelve lessons</title>",
-            f"<style>\n{STYLE}</style>\n</head>\n<body>\n<h1>The Intel 8080 in twelve lessons</h1>",
+            '<meta name="viewport" content="width=device-width">', "<title>The Intel 8080 in thirteen lessons</title>",
+            f"<style>\n{STYLE}</style>\n</head>\n<body>\n<h1>The Intel 8080 in thirteen lessons</h1>",
             "<nav>\n<ol>", *self.contents, '<li><a href="#answers">Answers</a></li>', "</ol>\n</nav>",
             *filter(None, self.lessons),
             '<section id="answers">\n<h1>Answers</h1>', *self.answers, "</section>\n</body>\n</html>\n"])

@@ -2,7 +2,7 @@
 import {readSetting, saveSetting} from "../panel/dom.js";
 import {emit} from "../panel/signals.js";
 import {transport} from "../panel/transport.js";
-import {LOOKS, Requests, identifier, messageOf} from "../shared.js";
+import {LOOKS, PRESSES, Requests, identifier, messageOf} from "../shared.js";
 import {tell} from "./message.js";
 
 const SESSION = identifier(), LESSON = document.documentElement.dataset.lesson;
@@ -137,6 +137,6 @@ function hearStatus(state, parent) {
     if (hearCell) hearCell(state, {}, {});
     if (state === "idle") cells.delete(parent.msg_id);
     // breakpoints and stops that other pages of the board have changed, or a run of theirs
-    const isOthers = parent.session !== SESSION && parent.username !== LOOKS;
+    const isOthers = parent.session !== SESSION && ![LOOKS, PRESSES].includes(parent.username);
     if (state === "idle" && (isOthers || parent.msg_type === "execute_request")) emit("stop");
 }
