@@ -59,6 +59,7 @@ def ring(chance):
 
 # What the exercises whose registers may not hold anything are given; `bytes` lie at HL.
 GIVEN = {
+    **{("00-numbers", number): lambda chance: {"B": chance.randrange(1, 5)} for number in (1, 2, 3)},
     ("02-flags", 3): lambda chance: {name: int(str(chance.randrange(100)), 16) for name in "BC"},
     ("03-jumps", 3): lambda chance: {"C": chance.choice((1, 2, 3, 10, chance.randrange(1, 256)))},
     ("04-memory", 1): lambda chance: {"bytes": text(chance)},

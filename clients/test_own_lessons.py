@@ -192,8 +192,10 @@ class Book(unittest.TestCase):
         self.assertEqual(len(names), len(set(names)))
         self.assertEqual({name[1:] for name in self.words.named if name[0] == "#"} - set(names), set())
         self.assertEqual(re.findall(r"<script|<link|@import|url\(", self.page), [])
-        pictures = [base64.b64decode(name.partition(",")[2]) for name in self.words.named if name.startswith("data:image/png")]
-        self.assertEqual(sorted(pictures), sorted(path.read_bytes() for path in (LESSONS / "source").glob("*.png")))
+        pictures = [base64.b64decode(name.partition(",")[2]) for name in self.words.named if name.startswith("data:image/")]
+        drawings = [make.drawings.svg(name).encode() for name in make.drawings.DRAWINGS]
+        taken = [path.read_bytes() for path in (LESSONS / "source").glob("lesson-*.png")]
+        self.assertEqual(sorted(pictures), sorted([*drawings, *taken]))
 
     def test_it_has_all_cells_but_tools_and_judges(self):
         for name in make.lessons():
@@ -212,8 +214,19 @@ class Book(unittest.TestCase):
                     self.assertIn(cell.answer, answers)
                     self.assertNotIn(cell.answer, lessons)
 
+    def test_hints_stand_at_the_end(self):
+        lessons, _, hints = self.words.text.rpartition("Hints\n")
+        for name in make.lessons():
+            for line in re.findall(r"</summary>\n\n(.*)", make.source(name)):
+                said = line.removeprefix("1. ").partition("`")[0]
+                self.assertTrue(len(said) < 20 or said in hints and said not in lessons, said)
+
+    def test_it_has_the_glossary(self):
+        for each in make.glossary().words:
+            self.assertIn(f"{each.word}\n", self.words.text)
+
     def test_what_all_lessons_say_is_said_once(self):
-        self.assertEqual(self.words.text.count("Each of the three exercises wants a routine from you."), 1)
+        self.assertEqual(self.words.text.count("In each of the three exercises you complete a cell."), 1)
 
     def test_it_has_colours(self):
         for kind, text in (("label", "START:"), ("word", "MVI"), ("number", "0FFH"), ("comment", "; A := ten times B.")):
@@ -224,4 +237,4 @@ class Book(unittest.TestCase):
         own = os.environ | {"HOME": str(self.folder)}
         subprocess.run([*words, "book.html"], cwd=self.folder, check=True, capture_output=True, timeout=PATIENCE, env=own)
         content = (self.folder / "book.pdf").read_bytes()
-        self.assertIn(len(re.findall(rb"/Type /Page\b", content)), range(60, 100))
+        self.assertIn(len(re.findall(rb"/Type /Page\b", content)), range(70, 130))

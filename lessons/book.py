@@ -1,11 +1,14 @@
-"""The lessons as one page that prints well: without tools and judges, and with all answers at the end."""
+"""The lessons as one page that prints well: without tools and judges, and with all hints, answers and the glossary at the end."""
 import base64
 import html
 import re
 
-from pages import heading, inline, table
+from pages import PICTURE, content_of, heading, inline, is_fold, is_items, items, table
 
-PICTURE = re.compile(r"!\[([^]]*)\]\(([\w.-]+\.png)\)")
+TITLE = "The Intel 8080 in lessons and exercises"
+
+# How blocks begin that are said in each lesson, though all have them.
+EVERYWHERE = ("#", "<", "After this lesson you can")
 
 # A comment, a quoted text, a label, a number, or a word.
 SIGNS = re.compile(r"(?P<comment>;.*)|(?P<text>'(?:[^']|'')*')|(?P<label>^[\w@?]+:)|(?P<number>\b\d\w*)|(?P<name>[\w@?$]+)"
@@ -32,6 +35,7 @@ th, td { border: 0.2mm solid #bbb; padding: 0.15em 0.6em; text-align: left; vert
 img { max-width: 100%; height: auto; break-inside: avoid }
 nav ol { list-style: none; padding: 0 }
 a { color: inherit }
+dt { font-weight: bold; break-after: avoid } dd { margin: 0 0 0.4em 5mm }
 .tools { font-style: italic; color: #444 }
 .comment { color: #5a6b5a; font-style: italic } .text { color: #8a2a0d } .number { color: #0a5f8a }
 .label { color: #6a1b9a; font-weight: bold }
@@ -72,20 +76,21 @@ def split(text):
 def in_all(course):
     """The paragraphs that all lessons have, if there are several."""
     texts = [{each for cell in cells if not cell.is_code() for each in split(cell.text)} for _, cells in course]
-    return {each for each in set.intersection(*texts) if each[0] != "#"} if len(texts) > 1 else set()
+    return {each for each in set.intersection(*texts) if not each.startswith(EVERYWHERE)} if len(texts) > 1 else set()
 
 
 class Book:
-    """The parts of a book as they are written: the contents, the lessons, and the answers."""
+    """The parts of a book as they are written: the contents, the lessons, the hints and the answers."""
 
     def __init__(self, folder, shared):
-        self.folder, self.shared, self.said, self.part = folder, shared, set(), ""
-        self.contents, self.lessons, self.answers = [], [], []
+        self.folder, self.shared, self.said, self.name, self.part = folder, shared, set(), "", ""
+        self.contents, self.lessons, self.hints, self.answers, self.is_folded = [], [], [], [], False
 
     def add(self, name, cells):
         """Adds a lesson."""
-        title = re.match(r"# (.*)", cells[0].text)[1]
+        title, self.name = re.match(r"# (.*)", cells[0].text)[1], name
         self.contents.append(f'<li><a href="#{name}">{inline(title)}</a></li>')
+        self.hints.append(f"<h2>{inline(title)}</h2>")
         self.answers.append(f'<h2 id="{name}-answers">{inline(title)}</h2>')
         self.lessons.append(f'<section id="{name}">')
         for cell in cells:
@@ -102,7 +107,9 @@ class Book:
             self.lessons.append('<p class="tools">Here the notebook has a cell of tools.</p>')
         elif cell.kind() == "exercise":
             self.lessons.append(code_block(cell.text, "cell exercise"))
-            self.lessons.append(f'<p class="tools"><a href="#{name}-{number}">The answer is at the end.</a></p>')
+            links = [f'<a href="#{name}-{number}-hint">hints</a>'] if f'id="{name}-{number}-hint"' in "".join(self.hints) else []
+            links.append(f'<a href="#{name}-{number}">the answer</a>')
+            self.lessons.append(f'<p class="tools">At the end: {", ".join(links)}.</p>')
             self.answers += [f'<p class="answer" id="{name}-{number}">Exercise {number}</p>', code_block(cell.answer or "")]
         elif cell.kind() != "judge":
             self.lessons += [code_block(cell.text), printed_block(cell.printed, "output")]
@@ -116,7 +123,20 @@ class Book:
         """A text's blocks as HTML. What all lessons say is said once."""
         found = [each for each in split(text) if each not in self.shared or each not in self.said]
         self.said.update(found)
-        return [self.block(each) for each in found]
+        return [each for block in found for each in self.folded(block)]
+
+    def folded(self, text):
+        """A block as HTML, unless it belongs to a hint, which stands at the end."""
+        if is_fold(text):
+            kinds = re.findall("<summary>(.*?)</summary>", text)
+            self.is_folded = bool(kinds)
+            its_id = f"{self.name}-{self.part.rpartition(' ')[2]}-hint"
+            name = "" if f'id="{its_id}"' in "".join(self.hints) else f' id="{its_id}"'
+            self.hints += [f'<p class="answer"{name}>{inline(self.part)}: {kind.lower()}</p>' for kind in kinds]
+        elif self.is_folded:
+            self.hints.append(self.block(text))
+        else:
+            yield self.block(text)
 
     def block(self, text):
         """A block of Markdown as HTML."""
@@ -125,26 +145,31 @@ class Book:
             return re.sub(r' id="[^"]*"', "", heading(*found.groups()))
         if text.startswith("|"):
             return table(text)
-        if text.startswith("- "):
-            return "<ul>\n" + "\n".join(f"<li>{inline(line[2:])}</li>" for line in text.split("\n")) + "\n</ul>"
+        if is_items(text):
+            return items(text)
         if found := PICTURE.fullmatch(text):
-            content = base64.b64encode((self.folder / found[2]).read_bytes()).decode()
-            return f'<p><img src="data:image/png;base64,{content}" alt="{html.escape(found[1])}"></p>'
+            told, name, kind = found.groups()
+            content = base64.b64encode(content_of(name, kind, self.folder)).decode()
+            format_ = "svg+xml" if kind == "svg" else kind
+            return f'<p><img src="data:image/{format_};base64,{content}" alt="{html.escape(told)}"></p>'
         return f"<p>{inline(text)}</p>"
 
-    def page(self):
+    def page(self, glossary):
+        words = glossary.html(inline, lambda word: f"#{word.lesson}")
         return "\n".join([
             '<!DOCTYPE html>\n<html lang="en">\n<head>\n<meta charset="utf-8">',
-            '<meta name="viewport" content="width=device-width">', "<title>The Intel 8080 in thirteen lessons</title>",
-            f"<style>\n{STYLE}</style>\n</head>\n<body>\n<h1>The Intel 8080 in thirteen lessons</h1>",
-            "<nav>\n<ol>", *self.contents, '<li><a href="#answers">Answers</a></li>', "</ol>\n</nav>",
+            '<meta name="viewport" content="width=device-width">', f"<title>{TITLE}</title>",
+            f"<style>\n{STYLE}</style>\n</head>\n<body>\n<h1>{TITLE}</h1>", "<nav>\n<ol>", *self.contents,
+            *(f'<li><a href="#{part.lower()}">{part}</a></li>' for part in ("Glossary", "Hints", "Answers")), "</ol>\n</nav>",
             *filter(None, self.lessons),
+            f'<section id="glossary">\n<h1>Glossary</h1>\n<p>{inline(glossary.about)}</p>', words, "</section>",
+            '<section id="hints">\n<h1>Hints</h1>', *self.hints, "</section>",
             '<section id="answers">\n<h1>Answers</h1>', *self.answers, "</section>\n</body>\n</html>\n"])
 
 
-def page(course, folder):
-    """The page of a course, pairs of a lesson's name and its cells. Its pictures are in this folder."""
+def page(course, folder, glossary):
+    """The page of a course, pairs of a lesson's name and its cells, and of its glossary. Its pictures are in this folder."""
     book = Book(folder, in_all(course))
     for name, cells in course:
         book.add(name, cells)
-    return book.page()
+    return book.page(glossary)

@@ -4,10 +4,18 @@ import re
 import struct
 from pathlib import Path
 
+import drawings
+
 BOOK = Path(__file__).resolve().parent.parent / "web" / "book"
 
 # A block that is a picture alone.
-PICTURE = re.compile(r"!\[([^]]*)\]\(([\w.-]+\.png)\)")
+PICTURE = re.compile(r"!\[([^]]*)\]\(([\w-]+)\.(png|svg)\)")
+
+# A line of a hint's element, whose text lies between such lines.
+FOLD = re.compile(r"</?details>|<details><summary>([^<]*)</summary>")
+
+# Headings that the table of contents leaves out, since every lesson has them.
+EVERYWHERE = ("Aims", "Tools", "Exercises", "Summary")
 
 # The fewest lines of tools that are folded, as the classic Notebook folds them.
 LONG_TOOLS = 12
@@ -44,18 +52,55 @@ def table(text):
     return f"<table>\n<thead><tr>{head}</tr></thead>\n<tbody>\n{rows}\n</tbody>\n</table>"
 
 
-def picture(told, name, content):
+def is_fold(text):
+    """Whether a block is nothing but the beginning and end of hints."""
+    return all(FOLD.fullmatch(line) for line in text.split("\n"))
+
+
+def items(text):
+    """A list, of lines that begin with `- ` or with numbers."""
+    lines = text.split("\n")
+    kind, sign = ("ul", "- ") if text.startswith("- ") else ("ol", r"\d+\. ")
+    return "\n".join([f"<{kind}>", *(f"<li>{inline(re.sub(f'^{sign}', '', line))}</li>" for line in lines), f"</{kind}>"])
+
+
+def hints_as_html(text):
+    """A text of Markdown with its hints as HTML without blank lines: of what is Markdown within an element Jupyter's pages make
+    HTML, and nbconvert doesn't."""
+    def hint(found):
+        blocks = [items(each) if is_items(each) else f"<p>{inline(each)}</p>" for each in re.split(r"\n{2,}", found[2].strip("\n"))]
+        return "\n".join([found[1], *blocks, "</details>"])
+
+    return re.sub(r"(?ms)^(<details><summary>[^\n]*</summary>)\n(.*?)^</details>$", hint, text)
+
+
+def is_items(text):
+    return re.match(r"- |\d+\. ", text) is not None
+
+
+def content_of(name, kind, folder):
+    """The content of a picture: a file of this folder, or a drawing."""
+    return drawings.svg(name).encode() if kind == "svg" else (folder / f"{name}.png").read_bytes()
+
+
+def size_of(content):
+    """A picture's width and height, in points."""
+    found = re.match(rb'<svg [^>]*width="(\d+)" height="(\d+)"', content)
+    return tuple(map(int, found.groups())) if found else struct.unpack(">II", content[16:24])
+
+
+def picture(told, file, content):
     """A picture, with its size, so that nothing moves when it is there."""
-    width, height = struct.unpack(">II", content[16:24])
-    return f'<p><img src="{name}" alt="{html.escape(told)}" width="{width}" height="{height}" loading="lazy"></p>'
+    width, height = size_of(content)
+    return f'<p><img src="{file}" alt="{html.escape(told)}" width="{width}" height="{height}" loading="lazy"></p>'
 
 
 class Pages:
     """The pages of a course, which is a list of lessons: a name, and pairs of a cell and its id. `source` is the folder with the
     lessons' pictures."""
 
-    def __init__(self, course, source):
-        self.course, self.source = dict(course), source
+    def __init__(self, course, source, glossary):
+        self.course, self.source, self.glossary = dict(course), source, glossary
         self.titles = {name: re.match(r"# (.*)", cells[0][0].text)[1] for name, cells in course}
         self.pictures = {}
 
@@ -65,13 +110,15 @@ class Pages:
             return heading(*found.groups())
         if text.startswith("|"):
             return table(text)
-        if text.startswith("- "):
-            return "<ul>\n" + "\n".join(f"<li>{inline(line[2:])}</li>" for line in text.split("\n")) + "\n</ul>"
+        if is_items(text):
+            return items(text)
+        if is_fold(text):
+            return text
         if found := PICTURE.fullmatch(text):
-            told, name = found.groups()
-            self.pictures[name] = (self.source / name).read_bytes()
-            return picture(told, name, self.pictures[name])
-        return f"<p>{inline(text)}</p>"
+            told, name, kind = found.groups()
+            self.pictures[f"{name}.{kind}"] = content_of(name, kind, self.source)
+            return picture(told, f"{name}.{kind}", self.pictures[f"{name}.{kind}"])
+        return self.glossary.marked(f"<p>{inline(text)}</p>")
 
     def cell(self, cell, its_id):
         """A cell as HTML."""
@@ -101,17 +148,23 @@ class Pages:
     def entry(self, name):
         """A lesson in the table of contents: its title, what it is about, and room for what is done of it."""
         text = "\n".join(cell.text for cell, _ in self.course[name] if not cell.is_code() and not cell.teachers)
-        parts = [words for words in re.findall(r"(?m)^## (.*)", text) if words not in ("Tools", "Exercises")]
+        parts = [words for words in re.findall(r"(?m)^## (.*)", text) if words not in EVERYWHERE]
         links = " · ".join(f'<a href="{name}.html#{anchor(words)}">{inline(words)}</a>' for words in parts)
         count = sum(cell.kind() == "exercise" for cell, _ in self.course[name])
         title = f'<a class="title" href="{name}.html">{inline(self.titles[name])}</a>'
         return f'<li>{title} <span class="done" data-lesson="{name}" data-exercises="{count}"></span>\n<p>{links}</p></li>'
+
+    def words(self):
+        """The glossary's page."""
+        words = self.glossary.html(inline, lambda word: f"{word.lesson}.html#term-{word.anchor()}")
+        return filled("glossary.html", title=self.glossary.title, about=inline(self.glossary.about), words=words)
 
     def files(self):
         """The content of each file, by its name."""
         made = {path.name: path.read_bytes() for path in BOOK.iterdir() if path.suffix in (".js", ".css")}
         made.update({f"{name}.html": self.lesson(name).encode() for name in self.course})
         entries = "\n".join(self.entry(name) for name in self.course)
+        made["glossary.html"] = self.words().encode()
         made["index.html"] = filled("contents.html", lessons=entries).encode()
         return {**made, **self.pictures}
 
