@@ -1,6 +1,5 @@
 """The static site: without its server, with two versions, in browsers that lack something; its boards after a reload, in a file,
 in two windows, and at their end."""
-import functools
 import importlib.machinery
 import importlib.util
 import json
@@ -315,16 +314,6 @@ class Sessions(SitePages):
         self.browser.close_window()
         self.says_hello(page)
 
-    def test_room_that_is_used_up(self):
-        page = self.open()
-        page.is_in("idle")
-        limit = functools.partial(self.browser.devtools, "Storage.overrideQuotaForOrigin", origin=self.host.address)
-        self.addCleanup(limit)
-        limit(quotaSize=1)
-        self.says_hello(page)
-        self.bar(page, "The session isn't kept. The browser keeps nothing here, or its room is used up. Work goes on, but ")
-        self.says_hello(page)
-
     def test_a_session_that_is_too_long(self):
         """The board goes on, and says once that it isn't kept. Nothing of it is kept."""
         page = self.stopped()
@@ -382,9 +371,12 @@ class Sessions(SitePages):
         """As it does with one that nobody has looked at for long."""
         page = self.stopped()
         shown = self.shown(page)
+        page.browser.ask("POST", "/window/minimize")
         for state in ("frozen", "active"):
-            self.browser.devtools("Page.setWebLifecycleState", state=state)
+            page.browser.devtools("Page.setWebLifecycleState", state=state)
             time.sleep(1)
+        page.browser.size(1250, 1130)
+        page.waits(lambda: not page.run("return document.hidden"))
         self.assertEqual(self.shown(page), shown)
         page.command("next")
         page.stops("step", 5)
@@ -431,6 +423,16 @@ class Refused(SitePages):
         page.is_in("idle")
         self.assertEqual(page.message(), "")
         self.assertEqual(page.run("return document.querySelectorAll('#site p').length"), 1)
+
+
+class Full(SitePages):
+    def test_room_that_is_used_up(self):
+        """A browser knows for half a minute how much room there was, so that there is none from the first page on."""
+        self.browser.devtools("Storage.overrideQuotaForOrigin", origin=self.host.address, quotaSize=1)
+        page = self.open()
+        page.is_in("idle")
+        self.bar(page, "The session isn't kept. The browser keeps nothing here, or its room is used up. Work goes on, but ")
+        self.says_hello(page)
 
 
 class Versions(SitePages):

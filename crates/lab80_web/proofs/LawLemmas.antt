@@ -102,27 +102,32 @@ all_posts messages =
 
 -- ---- runs
 
-all_more : (t n : ℕ) (s : KernelState) → last_answer answer.More (slices t n s) s ≡ answer.More
+-- if a run of so many Slices is answered that there is more, each of them was, and all were made
+abbrev MoreIsOfAll : ℕ → ℕ → KernelState → Type 0
+MoreIsOfAll t n s =
+    last_answer answer.More (slices t n s) s ≡ answer.More
     → AreAllMore (slices t n s) s × (length (slices t n s) ≡ n)
-all_more t zero s e = rw (no_slices t s) (tt, refl)
-all_more t (suc n) s e = by (is_more (answer_to_call (Slice t) s)) refl
-  where
-    by : (b : Bool) → is_more (answer_to_call (Slice t) s) ≡ b
-        → AreAllMore (slices t (suc n) s) s × (length (slices t (suc n) s) ≡ suc n)
-    by true h =
-        let here = slices_on t n s h in
-        let is = more_is _ h in
-        let mid = next s (Slice t) in
-        let last : last_answer answer.More (slices t n mid) mid ≡ answer.More =
-        ap (λ a. last_answer a (slices t n mid) mid) (sym is)
-        ∙ sym (ap (λ calls. last_answer answer.More calls s) here ∙ last_on answer.More (Slice t) _ s) ∙ e in
-        let rest = all_more t n mid last in
-        rw here ((is, rest.0), ap suc rest.1)
-    by false h =
-        let here = slices_over t n s h in
-        let last = ap (λ calls. last_answer answer.More calls s) here
-        ∙ last_on answer.More (Slice t) [] s ∙ last_none _ (next s (Slice t)) in
-        absurd (false≢true (sym h ∙ ap is_more (sym last ∙ e)))
+
+one_more : (t n : ℕ) (s : KernelState) (b : Bool) → is_more (answer_to_call (Slice t) s) ≡ b
+    → MoreIsOfAll t n (next s (Slice t)) → MoreIsOfAll t (suc n) s
+one_more t n s true h on = λ e.
+    let mid = next s (Slice t) in
+    let here = slices_on t n s h in
+    let is = more_is _ h in
+    let last : last_answer answer.More (slices t n mid) mid ≡ answer.More =
+    ap (λ a. last_answer a (slices t n mid) mid) (sym is)
+    ∙ sym (ap (λ calls. last_answer answer.More calls s) here ∙ last_on answer.More (Slice t) _ s) ∙ e in
+    rw here ((is, (on last).0), ap suc (on last).1)
+one_more t n s false h on = λ e.
+    let last : last_answer answer.More (slices t (suc n) s) s ≡ answer_to_call (Slice t) s =
+    ap (λ calls. last_answer answer.More calls s) (slices_over t n s h)
+    ∙ last_on answer.More (Slice t) [] s ∙ last_none _ (next s (Slice t)) in
+    absurd (false≢true (sym h ∙ ap is_more (sym last ∙ e)))
+
+all_more : (t n : ℕ) (s : KernelState) → MoreIsOfAll t n s
+all_more t zero s = λ e. rw (no_slices t s) (tt, refl)
+all_more t (suc n) s =
+    one_more t n s (is_more (answer_to_call (Slice t) s)) refl (all_more t n (next s (Slice t)))
 
 more_last : (calls : List Call) (s : KernelState) → AreAllMore calls s
     → last_answer answer.More calls s ≡ answer.More
