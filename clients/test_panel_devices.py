@@ -20,7 +20,7 @@ NAMES = "return [...document.querySelectorAll('.device')].map(each => each.getAt
 SEEN = "return document.querySelector(arguments[0]).checkVisibility()"
 
 # What is said of a picture, for those who don't see it.
-LABEL = "return document.querySelector(arguments[0]).getAttribute('aria-label')"
+LABEL = "return document.querySelector(arguments[0])?.getAttribute('aria-label')"
 
 # The colour of a dot of a screen.
 DOT = """
@@ -224,8 +224,9 @@ class DevicePages(Pages):
         wait_until(lambda: page.ask("boardPress", vector=vector) != "Latched")
 
     def first_row(self, page):
-        """The first row of the matrix, as a number."""
-        return int(page.run(LABEL, ".matrix").split()[4], 16)
+        """The first row of the matrix, as a number, or None as long as nothing is shown."""
+        label = page.run(LABEL, ".matrix")
+        return int(label.split()[4], 16) if label else None
 
 
 class Devices(DevicePages):
@@ -352,6 +353,7 @@ class Devices(DevicePages):
 
     def test_a_running_program_is_followed(self):
         page = self.runs(TURNS)
+        page.waits(lambda: self.first_row(page) is not None)
         seen = set()
         page.waits(lambda: seen.add((self.first_row(page), page.run(LABEL, ".of-digits .digits"))) or len(seen) > 4)
         self.assertTrue(all(row.bit_count() == 1 for row, _ in seen), seen)
