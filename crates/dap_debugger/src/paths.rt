@@ -3,20 +3,15 @@ ghost use Rattle.std.specs.Prelude.{◌≡◌, option_map};
 ghost use Rattle.dap_debugger.specs.Paths.{path_in, with_path, with_canonical};
 
 use base_text::text::Text;
-use dap_requests::request::{EditorCommand, EditorRequest, RequestContent};
+use dap_requests::request::{EditorCommand, EditorRequest, LoadCommand, RequestContent};
 
 fn path_in(asked: &RequestContent) -> Option<&str>
     ensures { option_map (λ t. t.now) result ≡ path_in asked.now }
 {
-    let RequestContent::Editor(command) = asked else {
-        return None;
-    };
-    match command {
-        EditorCommand::Launch(launch) => Some(launch.program.as_str()),
-        EditorCommand::Restart(Some(launch)) => Some(launch.program.as_str()),
-        EditorCommand::SetBreakpoints { path, .. }
-        | EditorCommand::BreakpointLocations { path, .. }
-        | EditorCommand::GotoTargets { path, .. } => Some(path.as_str()),
+    match asked {
+        RequestContent::Load(LoadCommand::Launch(launch)) => Some(launch.program.as_str()),
+        RequestContent::Load(LoadCommand::Restart(Some(launch))) => Some(launch.program.as_str()),
+        RequestContent::Editor(EditorCommand::OnSource { path, .. }) => Some(path.as_str()),
         _ => None,
     }
 }
@@ -26,13 +21,9 @@ fn put_path(path: Text, asked: &mut RequestContent)
     ensures { asked.new ≡ with_path path asked.old }
 {
     match asked {
-        RequestContent::Editor(EditorCommand::Launch(launch)) => launch.canonical = path,
-        RequestContent::Editor(EditorCommand::Restart(Some(launch))) => launch.canonical = path,
-        RequestContent::Editor(EditorCommand::SetBreakpoints { path: named, .. }) => *named = path,
-        RequestContent::Editor(EditorCommand::BreakpointLocations { path: named, .. }) => {
-            *named = path
-        }
-        RequestContent::Editor(EditorCommand::GotoTargets { path: named, .. }) => *named = path,
+        RequestContent::Load(LoadCommand::Launch(launch)) => launch.canonical = path,
+        RequestContent::Load(LoadCommand::Restart(Some(launch))) => launch.canonical = path,
+        RequestContent::Editor(EditorCommand::OnSource { path: named, .. }) => *named = path,
         _ => drop(path),
     }
 }

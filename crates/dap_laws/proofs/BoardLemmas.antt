@@ -7,8 +7,6 @@ use Rattle.lab_views.specs.declared.view.View.{View}
 use Rattle.lab_shown.specs.declared.shown.Shown.{Shown}
 use Rattle.lab_views.specs.declared.fault.ViewFault.{ViewFault}
 use Rattle.lab_views.specs.Views.{view_of}
-use Rattle.lab_views.specs.Places.{place_named}
-use Rattle.lab_views.specs.Values.{value_spelled}
 use Rattle.lab_image.specs.Sources.{place_of, source_at}
 use Rattle.lab_core.specs.declared.answer.Answer.TheVariants as answer
 use Rattle.lab_core.specs.declared.event.Event.TheVariants as event
@@ -17,8 +15,8 @@ use Rattle.lab_core.specs.declared.fault.EventFault.TheVariants.{Vector, Latched
 use Rattle.lab_core.specs.declared.run_state.RunState.{RunState}
 use Rattle.lab_core.specs.declared.run_state.RunState.TheVariants.{NoRun, Running, Stopped}
 use Rattle.lab_core.specs.Board.{Board}
-use Rattle.lab_core.specs.Events.{EventResult, result_of, without_run, with_run, while_stopped, while_running}
-use Rattle.lab_core.specs.Events.{while_attached, with_source, with_breakpoints, or_poke, or_source}
+use Rattle.lab_core.specs.Events.{EventResult, result_of, without_run, with_run, while_running}
+use Rattle.lab_core.specs.Events.{while_attached, with_source, with_breakpoints, or_source}
 use Rattle.lab_core.specs.Events.{or_assembly, cell_meaning, as_answer, parts_of, after_start, after_stop}
 use Rattle.lab_core.specs.Events.{after_end}
 use Rattle.lab_core.specs.Changes.{after_write}
@@ -61,11 +59,6 @@ kept_without NoRun b g kept = kept
 kept_without Running b g kept = tt
 kept_without Stopped b g kept = tt
 
-kept_stopped : (r : RunState) (b : Board) (g : EventResult) → KeepsRun b g → KeepsRun b (while_stopped r g)
-kept_stopped NoRun b g kept = tt
-kept_stopped Running b g kept = tt
-kept_stopped Stopped b g kept = kept
-
 kept_latch : (c d : Bool) (f h : EventFault) (b b' : Board) → SameRun b b'
     → KeepsRun b (if c then Err f else if d then Err h else Ok (answer.Accepted, b'))
 kept_latch true d f h b b' kept = tt
@@ -96,14 +89,6 @@ pub kept_dump : (path text : Text) (b : Board) → KeepsRun b (result_of (event.
 kept_dump path text b =
     kept_step (or_source (place_of (record { path = path; text = text }) b.sources)) b _
     (λ place. record { run = refl; is_attached = refl })
-
-pub kept_poke : (reference : ℕ) (name value : Text) (b : Board)
-    → KeepsRun b (result_of (event.Poke reference name value) b)
-kept_poke reference name value b =
-    kept_stopped b.run b _
-    (kept_step (or_poke (place_named reference name)) b _
-    (λ place. kept_step (or_poke (value_spelled place value)) b _
-    (λ n. record { run = refl; is_attached = refl })))
 
 pub kept_press : (n : ℕ) (b : Board) → KeepsRun b (result_of (event.Press n) b)
 kept_press n b = kept_latch _ _ Vector Latched b _ (record { run = refl; is_attached = refl })

@@ -15,13 +15,13 @@ use Rattle.dap_session.specs.Requests as session
 use Rattle.dap_session.specs.Rewinds.{can_go_back}
 use Rattle.dap_record.specs.declared.back.Back.{Back}
 use Rattle.dap_record.specs.declared.back.Back.TheVariants as back
-use Rattle.dap_record.specs.declared.mid_search.MidSearch.{MidSearch}
-use Rattle.dap_record.specs.declared.mid_search.MidSearch.TheVariants as mid
+use Rattle.dap_requests.specs.declared.traits.MidSearch.{MidSearch}
+use Rattle.dap_requests.specs.declared.traits.MidSearch.TheVariants as mid
 use Rattle.dap_record.specs.Recordings.{Recording, RecordedState}
 use Rattle.dap_record.specs.Backward.{RecordedReply, goal_of, count_to, refusing_back, arriving}
 use Rattle.dap_record.specs.Backward.{searching_for, leaving, going_back_from, unclear_text}
 use Rattle.dap_record.specs.Backward.{going_back_if, going_back}
-use Rattle.dap_record.specs.MidSearch.{mid_search}
+use Rattle.dap_requests.specs.Traits.{mid_search}
 use Rattle.dap_record.specs.Turns.{RecordedTurn, recorded_turn, turn_of, back_in, turn_by, pausing}
 use Rattle.dap_record.specs.Turns.{refusing_now, looking, turn_searching, turn_in, turn}
 use Rattle.dap_record.specs.Slices.{RecordedTold, slice_of, recorded_slice, slice_limit, found_from}

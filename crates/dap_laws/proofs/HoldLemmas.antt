@@ -7,13 +7,19 @@ use Rattle.base_text.specs.Bytes.{Text}
 use Rattle.i80_exec.specs.declared.registers.Registers.{Registers}
 use Rattle.lab_core.specs.declared.run_state.RunState.TheVariants.{Stopped}
 use Rattle.lab_core.specs.Board.{Board}
-use Rattle.dap_talk.specs.declared.command.DapCommand.{DapCommand}
-use Rattle.dap_talk.specs.declared.command.DapCommand.TheVariants as command
+use Rattle.dap_requests.specs.declared.request.BoardCommand.{BoardCommand}
+use Rattle.dap_requests.specs.declared.request.BoardCommand.TheVariants as command
 use Rattle.dap_messages.specs.declared.message.EditorOutcome.{EditorOutcome}
 use Rattle.dap_messages.specs.declared.message.EditorOutcome.TheVariants.{Refused}
 use Rattle.dap_messages.specs.declared.message.ValueFormat.{ValueFormat}
 use Rattle.dap_requests.specs.declared.request.EditorCommand.{EditorCommand}
 use Rattle.dap_requests.specs.declared.request.EditorCommand.TheVariants as editor
+use Rattle.dap_requests.specs.declared.request.SourceCommand.{SourceCommand}
+use Rattle.dap_requests.specs.declared.request.SourceCommand.TheVariants as source
+use Rattle.dap_requests.specs.declared.request.BreakpointsCommand.{BreakpointsCommand}
+use Rattle.dap_requests.specs.declared.request.BreakpointsCommand.TheVariants as breakpoints
+use Rattle.dap_requests.specs.declared.request.MemoryCommand.{MemoryCommand}
+use Rattle.dap_requests.specs.declared.request.MemoryCommand.TheVariants as memory
 use Rattle.dap_requests.specs.declared.request.EvaluateContext.TheVariants as context
 use Rattle.dap_requests.specs.declared.request.VariablesCommand.TheVariants as variables
 use Rattle.dap_requests.specs.declared.request.RequestContent.{RequestContent}
@@ -30,12 +36,14 @@ use Rattle.dap_session.specs.Rewinds.{can_go_back, held_at}
 use Rattle.dap_session.specs.Laws.{asks_to_load, LeavesAll}
 use Rattle.dap_session.proofs.RefusalLemmas.{refused_turn}
 use Rattle.dap_session.proofs.ShownLemmas.{sets_nothing}
-use Rattle.dap_record.specs.declared.mid_search.MidSearch.TheVariants as mid
+use Rattle.dap_requests.specs.declared.traits.MidSearch.TheVariants as mid
 use Rattle.dap_record.specs.declared.back.Back.{Back}
 use Rattle.dap_record.specs.Recordings.{Recording, RecordedState, recorded_before_requests, new_recording}
 use Rattle.dap_record.specs.Recordings.{kept_while, with_input_if, begins, input_made, recording_after}
 use Rattle.dap_record.specs.Backward.{back_of}
-use Rattle.dap_record.specs.MidSearch.{mid_search}
+use Rattle.dap_requests.specs.Traits.{mid_search, board_traits, source_traits, breakpoints_traits}
+use Rattle.dap_requests.specs.Traits.{memory_traits, variables_traits, editor_traits}
+use Rattle.dap_requests.specs.declared.request.VariablesCommand.{VariablesCommand}
 use Rattle.dap_record.specs.Turns.{RecordedTurn, recorded_turn, back_in, turn_of, turn}
 use Rattle.dap_record.specs.Slices.{RecordedTold, slice_told, Input, request, slice, step, play_all}
 use Rattle.dap_record.specs.Slices.{meant_by, request_told}
@@ -177,25 +185,45 @@ refused_recording a found v text of refused =
     ∙ still_kept v.recording v.session t.state of
     (still_can v.session t.state (refused_turn a found v.session text refused))
 
+-- no request of these families ends a search
+source_ends_none : (c : SourceCommand) → (source_traits c).mid_search ≡ mid.End → ⊥
+source_ends_none (source.SetBreakpoints lines) is = absurd cc
+source_ends_none (source.BreakpointLocations first last) is = absurd cc
+source_ends_none (source.GotoTargets line) is = absurd cc
+
+breakpoints_end_none : (c : BreakpointsCommand) → (breakpoints_traits c).mid_search ≡ mid.End → ⊥
+breakpoints_end_none (breakpoints.SetFunctionBreakpoints functions) is = absurd cc
+breakpoints_end_none (breakpoints.SetExceptionBreakpoints filters) is = absurd cc
+breakpoints_end_none (breakpoints.DataBreakpointInfo query) is = absurd cc
+breakpoints_end_none (breakpoints.SetDataBreakpoints on_data) is = absurd cc
+breakpoints_end_none (breakpoints.SetInstructionBreakpoints instructions) is = absurd cc
+
+memory_ends_none : (c : MemoryCommand) → (memory_traits c).mid_search ≡ mid.End → ⊥
+memory_ends_none (memory.ReadMemory address offset count) is = absurd cc
+memory_ends_none (memory.WriteMemory address offset bytes) is = absurd cc
+memory_ends_none (memory.Disassemble address offset instruction_offset count operands) is = absurd cc
+
+variables_end_none : (c : VariablesCommand) → (variables_traits c).mid_search ≡ mid.End → ⊥
+variables_end_none (variables.Scopes frame) is = absurd cc
+variables_end_none (variables.Variables reference start count format) is = absurd cc
+variables_end_none (variables.SetVariable reference name value format) is = absurd cc
+variables_end_none (variables.SetExpression expression value format) is = absurd cc
+variables_end_none (variables.Completions text column) is = absurd cc
+
 -- what ends a search is never refused
 ends_done : (a : RequestContent) (found : Option FileText) (s : SessionState) → mid_search a ≡ mid.End
     → s.settings.is_initialized ≡ true → is_success (session.turn a found s).outcome ≡ true
 unfolding session.turn
 ends_done (asked.Board command.Disconnect) found s is opened = rw opened refl
 ends_done (asked.Editor editor.Terminate) found s is opened = rw opened refl
+ends_done (asked.Editor (editor.Evaluate expression context.Repl format)) found s is opened = absurd cc
 ends_done (asked.Editor (editor.Evaluate expression context.Watch format)) found s is opened = absurd cc
 ends_done (asked.Editor (editor.Evaluate expression context.Other format)) found s is opened = absurd cc
-ends_done (asked.Editor (editor.Variables (variables.Scopes frame))) found s is opened = absurd cc
-ends_done (asked.Editor (editor.Variables (variables.Variables reference start count format))) found s is
-    opened =
-    absurd cc
-ends_done (asked.Editor (editor.Variables (variables.SetVariable reference name value format))) found s is
-    opened =
-    absurd cc
-ends_done (asked.Editor (editor.Variables (variables.SetExpression expression value format))) found s is
-    opened =
-    absurd cc
-ends_done (asked.Editor (editor.Variables (variables.Completions text column))) found s is opened = absurd cc
+ends_done (asked.Editor (editor.OnSource path c)) found s is opened = absurd (source_ends_none c is)
+ends_done (asked.Editor (editor.Breakpoints c)) found s is opened = absurd (breakpoints_end_none c is)
+ends_done (asked.Editor (editor.Memory c)) found s is opened = absurd (memory_ends_none c is)
+ends_done (asked.Editor (editor.Variables c)) found s is opened = absurd (variables_end_none c is)
+ends_done (asked.Load c) found s is opened = absurd cc
 ends_done (asked.Board c) found s is opened = absurd cc
 ends_done (asked.Editor c) found s is opened = absurd cc
 ends_done (asked.Faulty f) found s is opened = absurd cc
@@ -254,46 +282,50 @@ pub record IsNoChange (a : RequestContent) : Type 0 where
   pub input : (b : Board) → input_of a b ≡ None
   pub back : back_of a ≡ None
 
-look_command : (c : DapCommand) → mid_search (asked.Board c) ≡ mid.Look → IsNoChange (asked.Board c)
+look_command : (c : BoardCommand) → (board_traits c).mid_search ≡ mid.Look → IsNoChange (asked.Board c)
 look_command command.Threads is = record { loads = refl; input = λ b. refl; back = refl }
 look_command (command.StackTrace start levels) is = record { loads = refl; input = λ b. refl; back = refl }
-look_command (command.Scopes frame) is = record { loads = refl; input = λ b. refl; back = refl }
-look_command (command.Variables reference start count) is =
-    record { loads = refl; input = λ b. refl; back = refl }
-look_command (command.Disassemble address offset instruction_offset count) is =
-    record { loads = refl; input = λ b. refl; back = refl }
 look_command (command.Source path) is = record { loads = refl; input = λ b. refl; back = refl }
 look_command other is = absurd cc
 
-look_editing : (c : EditorCommand) → mid_search (asked.Editor c) ≡ mid.Look → IsNoChange (asked.Editor c)
-look_editing (editor.Evaluate expression context.Watch format) is =
+look_memory : (c : MemoryCommand) → (memory_traits c).mid_search ≡ mid.Look
+    → IsNoChange (asked.Editor (editor.Memory c))
+look_memory (memory.ReadMemory address offset count) is =
     record { loads = refl; input = λ b. refl; back = refl }
-look_editing (editor.Evaluate expression context.Other format) is =
+look_memory (memory.Disassemble address offset instruction_offset count operands) is =
     record { loads = refl; input = λ b. refl; back = refl }
-look_editing (editor.Variables (variables.Scopes frame)) is =
+look_memory (memory.WriteMemory address offset bytes) is = absurd cc
+
+look_variables : (c : VariablesCommand) → (variables_traits c).mid_search ≡ mid.Look
+    → IsNoChange (asked.Editor (editor.Variables c))
+look_variables (variables.Scopes frame) is =
     record { loads = refl; input = λ b. sets_nothing (variables.Scopes frame) b tt; back = refl }
-look_editing (editor.Variables (variables.Variables reference start count format)) is = record {
+look_variables (variables.Variables reference start count format) is = record {
   loads = refl;
   input = λ b. sets_nothing (variables.Variables reference start count format) b tt;
   back = refl;
 }
-look_editing (editor.Variables (variables.Completions text column)) is =
+look_variables (variables.Completions text column) is =
     record { loads = refl; input = λ b. refl; back = refl }
-look_editing editor.ExceptionInfo is = record { loads = refl; input = λ b. refl; back = refl }
-look_editing (editor.ReadMemory address offset count) is =
+look_variables other is = absurd cc
+
+look_editor : (c : EditorCommand) → (editor_traits c).mid_search ≡ mid.Look → IsNoChange (asked.Editor c)
+look_editor (editor.Evaluate expression context.Watch format) is =
     record { loads = refl; input = λ b. refl; back = refl }
-look_editing (editor.Disassemble address offset instruction_offset count operands) is =
+look_editor (editor.Evaluate expression context.Other format) is =
     record { loads = refl; input = λ b. refl; back = refl }
-look_editing editor.LoadedSources is = record { loads = refl; input = λ b. refl; back = refl }
-look_editing (editor.GotoTargets path line) is = record { loads = refl; input = λ b. refl; back = refl }
-look_editing (editor.DataBreakpointInfo query) is = record { loads = refl; input = λ b. refl; back = refl }
-look_editing (editor.BreakpointLocations path first last) is =
-    record { loads = refl; input = λ b. refl; back = refl }
-look_editing other is = absurd cc
+look_editor editor.ExceptionInfo is = record { loads = refl; input = λ b. refl; back = refl }
+look_editor editor.LoadedSources is = record { loads = refl; input = λ b. refl; back = refl }
+look_editor (editor.OnSource path c) is = record { loads = refl; input = λ b. refl; back = refl }
+look_editor (editor.Breakpoints c) is = record { loads = refl; input = λ b. refl; back = refl }
+look_editor (editor.Memory c) is = look_memory c is
+look_editor (editor.Variables c) is = look_variables c is
+look_editor other is = absurd cc
 
 look_changes : (a : RequestContent) → mid_search a ≡ mid.Look → IsNoChange a
+look_changes (asked.Load c) is = absurd cc
 look_changes (asked.Board c) is = look_command c is
-look_changes (asked.Editor c) is = look_editing c is
+look_changes (asked.Editor c) is = look_editor c is
 look_changes (asked.Faulty f) is = record { loads = refl; input = λ b. refl; back = refl }
 
 -- by whether the request succeeds, and the run can go back

@@ -24,8 +24,8 @@ use Rattle.dap_record.specs.Recordings.{Recording, RecordedState, recorded_befor
 use Rattle.dap_record.specs.Recordings.{kept_while, with_input_if, is_full, begins, input_made}
 use Rattle.dap_record.specs.Recordings.{recording_after}
 use Rattle.dap_record.specs.Backward.{found_by}
-use Rattle.dap_record.specs.MidSearch.{mid_search}
-use Rattle.dap_record.specs.declared.mid_search.MidSearch.TheVariants as mid
+use Rattle.dap_requests.specs.Traits.{mid_search}
+use Rattle.dap_requests.specs.declared.traits.MidSearch.TheVariants as mid
 use Rattle.dap_record.specs.Turns.{RecordedTurn, turn_of, turn}
 use Rattle.dap_record.specs.Slices.{RecordedTold, steps_on, with_inputs_due, recorded_slice, slice_limit}
 use Rattle.dap_record.specs.Slices.{slice_told, Input, request, slice, step, play_all, meant_by}

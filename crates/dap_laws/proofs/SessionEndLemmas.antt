@@ -10,7 +10,7 @@ use Rattle.lab_core.specs.declared.run_state.RunState.TheVariants.{Stopped}
 use Rattle.lab_core.specs.Board.{Board}
 use Rattle.lab_core.specs.Slices.{traffic_of, after_steps, left_by}
 use Rattle.dap_session.specs.Slices.{slice_end_in, after_slice_in}
-use Rattle.dap_talk.specs.declared.command.DapCommand.TheVariants as command
+use Rattle.dap_requests.specs.declared.request.BoardCommand.TheVariants as command
 use Rattle.dap_board.specs.Commands.{command_result}
 use Rattle.dap_messages.specs.declared.message.EditorEvent.{EditorEvent}
 use Rattle.dap_requests.specs.declared.request.RequestContent.TheVariants as asked

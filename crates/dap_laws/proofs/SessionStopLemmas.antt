@@ -26,14 +26,20 @@ use Rattle.dap_session.specs.Slices.{slice_end_in}
 use Rattle.i80_devs.specs.Console.{written_to_console}
 use Rattle.dap_answers.specs.declared.answer.Body.TheVariants as body
 use Rattle.dap_answers.specs.Murmur.{cell_path}
-use Rattle.dap_talk.specs.declared.command.DapCommand.{DapCommand}
-use Rattle.dap_talk.specs.declared.command.DapCommand.TheVariants as command
-use Rattle.dap_board.specs.Bodies.{body_of}
-use Rattle.dap_board.specs.Commands.{first_line, command_result, board_with, step_request}
+use Rattle.dap_requests.specs.declared.request.BoardCommand.{BoardCommand}
+use Rattle.dap_requests.specs.declared.request.BoardCommand.TheVariants as command
+use Rattle.dap_board.specs.Commands.{command_result, board_with, step_request}
 use Rattle.dap_requests.specs.declared.request.RequestContent.{RequestContent}
 use Rattle.dap_requests.specs.declared.request.RequestContent.TheVariants as asked
 use Rattle.dap_requests.specs.declared.request.EditorCommand.{EditorCommand}
 use Rattle.dap_requests.specs.declared.request.EditorCommand.TheVariants as editor
+use Rattle.dap_requests.specs.declared.request.LoadCommand.TheVariants as load
+use Rattle.dap_requests.specs.declared.request.SourceCommand.{SourceCommand}
+use Rattle.dap_requests.specs.declared.request.SourceCommand.TheVariants as source
+use Rattle.dap_requests.specs.declared.request.BreakpointsCommand.{BreakpointsCommand}
+use Rattle.dap_requests.specs.declared.request.BreakpointsCommand.TheVariants as breakpoints
+use Rattle.dap_requests.specs.declared.request.MemoryCommand.{MemoryCommand}
+use Rattle.dap_requests.specs.declared.request.MemoryCommand.TheVariants as memory
 use Rattle.dap_run.specs.Messages.{as_messages}
 use Rattle.dap_run.specs.Slices.{log_events, console_events, line_events, outcome_events, run_end_events}
 use Rattle.dap_run.specs.Slices.{stop_event}
@@ -56,17 +62,18 @@ use Rattle.dap_run.specs.Lives.{ended_program}
 use Rattle.dap_run.specs.Lives.{end_of, exception_of}
 use Rattle.lab_shown.specs.declared.step.StepKind.{StepKind}
 use Rattle.lab_shown.specs.declared.step.Granularity.{Granularity}
-use Rattle.dap_session.specs.States.{SessionState, no_events, session_before_requests, with_board}
+use Rattle.dap_session.specs.States.{SessionState, session_before_requests, with_board}
 use Rattle.dap_session.specs.States.{is_running, wants_slice, with_filters}
 use Rattle.dap_session.specs.Breakpoints.{setting_data, setting_instructions}
-use Rattle.dap_session.specs.Requests.{resuming_from, explaining, set_initialized, commanding, editing}
+use Rattle.dap_session.specs.Requests.{resuming_from, explaining, set_initialized, on_board, on_editor}
+use Rattle.dap_session.specs.Requests.{on_source, on_breakpoints, on_memory}
 use Rattle.dap_session.specs.Requests.{objection, asking}
 use Rattle.dap_session.specs.Requests.{asking_unless, turn}
 use Rattle.dap_session.specs.Slices.{Input, request, slice, settings_after, slicing, slice_told, step}
 use Rattle.dap_session.specs.Slices.{play_all, with_question, with_hits}
 use Rattle.dap_session.specs.Laws.{Shown, stopped, unstopped, shown_after, shown_by, shown_for, ends_told}
 use Rattle.dap_session.specs.Laws.{ends_between, has_run, has_begun, events_in, asks_to_load, loads}
-use Rattle.dap_laws.proofs.BoardLemmas.{SameRun, kept_without, kept_dump, kept_poke, kept_press}
+use Rattle.dap_laws.proofs.BoardLemmas.{SameRun, kept_without, kept_dump, kept_press}
 use Rattle.dap_laws.proofs.BoardLemmas.{kept_steps}
 use Rattle.dap_laws.proofs.RunLemmas.{Seen, seen, seen_board, PhaseFits, ProgramFits, IsReached, no_run}
 use Rattle.dap_laws.proofs.RunLemmas.{idle, lively}
@@ -100,34 +107,23 @@ goes_explaining : (o : Option UndefinedOpcode) (s : SessionState) → IsReached 
 goes_explaining None s reached = still s s reached refl
 goes_explaining (Some undefined) s reached = still s s reached refl
 
-goes_command : (c : DapCommand) (s : SessionState) → IsReached (seen s) → GoesBy s (commanding c s)
+goes_command : (c : BoardCommand) (s : SessionState) → IsReached (seen s) → GoesBy s (on_board c s)
 unfolding command_result
-goes_command command.Initialize s reached =
-    goes_either s.settings.is_initialized s _ _ (still s s reached refl)
-    (still s (set_initialized no_events s) reached refl)
 goes_command command.Attach s reached = still s s reached refl
 goes_command command.Disconnect s reached = still s _ reached refl
 goes_command command.ConfigurationDone s reached = goes_where s.settings.program s refl reached
-goes_command (command.SetBreakpoints path lines) s reached = still s s reached refl
 goes_command command.BoardReset s reached = goes_resetting s reached
 goes_command command.Threads s reached = still s _ reached refl
 goes_command (command.StackTrace start levels) s reached = goes_shown (view.Frames start levels) s reached
-goes_command (command.Scopes frame) s reached = goes_shown (view.Scopes frame) s reached
-goes_command (command.Variables reference start count) s reached =
-    goes_shown (view.Variables reference start count) s reached
 goes_command command.Continue s reached = goes_continued (end_of s.settings.program) s reached
 goes_command (command.Step kind granularity) s reached =
     goes_stepped (end_of s.settings.program) kind granularity s reached
 goes_command command.Pause s reached = goes_paused s.board.is_attached s.board.run s refl reached
-goes_command (command.Disassemble address offset instruction_offset count) s reached =
-    goes_shown (view.Code (first_line s.board.machine address offset instruction_offset) count) s reached
 goes_command (command.Source path) s reached = goes_shown (view.Source path) s reached
 goes_command (command.DumpCell code) s reached =
     goes_board (λ _. body.SourcePath (cell_path code)) _ s reached (kept_dump (cell_path code) code s.board)
 goes_command command.DebugInfo s reached = goes_shown view.Info s reached
 goes_command command.InspectVariables s reached = goes_shown (view.Variables 1 0 0) s reached
-goes_command (command.SetVariable reference name value) s reached =
-    goes_changed body_of _ s reached (kept_poke reference name value s.board)
 goes_command (command.BoardSwitches value) s reached =
     goes_changed (λ _. body.Empty) (result_of (event.Switches value) s.board) s reached
     (record { run = refl; is_attached = refl })
@@ -141,37 +137,56 @@ goes_command (command.BoardAliases aliases) s reached =
     goes_changed (λ _. body.Empty) (result_of (event.SetBoard (board_with aliases)) s.board) s reached
     (kept_without s.board.run s.board (Ok (answer.BoardSet, _)) (record { run = refl; is_attached = refl }))
 
-goes_editing : (c : EditorCommand) (s : SessionState) → IsReached (seen s) → GoesBy s (editing c s)
-goes_editing (editor.Initialize supported numbering) s reached =
+goes_source : (path : Text) (c : SourceCommand) (s : SessionState) → IsReached (seen s)
+    → GoesBy s (on_source path c s)
+goes_source path (source.SetBreakpoints lines) s reached = goes_lines path lines s reached
+goes_source path (source.BreakpointLocations first last) s reached = still s s reached refl
+goes_source path (source.GotoTargets line) s reached = still s s reached refl
+
+goes_breakpoints : (c : BreakpointsCommand) (s : SessionState) → IsReached (seen s)
+    → GoesBy s (on_breakpoints c s)
+goes_breakpoints (breakpoints.SetFunctionBreakpoints functions) s reached = goes_functions functions s reached
+goes_breakpoints (breakpoints.SetExceptionBreakpoints filters) s reached =
+    still s (with_filters filters s) reached refl
+goes_breakpoints (breakpoints.DataBreakpointInfo query) s reached = still s s reached refl
+goes_breakpoints (breakpoints.SetDataBreakpoints on_data) s reached =
+    still s (setting_data on_data s).state reached refl
+goes_breakpoints (breakpoints.SetInstructionBreakpoints instructions) s reached =
+    still s (setting_instructions instructions s).state reached refl
+
+goes_memory : (c : MemoryCommand) (s : SessionState) → IsReached (seen s) → GoesBy s (on_memory c s)
+goes_memory (memory.ReadMemory address offset count) s reached = still s s reached refl
+goes_memory (memory.WriteMemory address offset bytes) s reached = goes_writing address offset bytes s reached
+goes_memory (memory.Disassemble address offset instruction_offset count operands) s reached =
+    still s s reached refl
+
+goes_editor : (c : EditorCommand) (s : SessionState) → IsReached (seen s) → GoesBy s (on_editor c s)
+goes_editor (editor.Initialize supported numbering) s reached =
     goes_either s.settings.is_initialized s _ _ (still s s reached refl)
     (still s (set_initialized supported s) reached refl)
-goes_editing editor.Terminate s reached = goes_terminating s reached
-goes_editing (editor.SetBreakpoints path lines) s reached = goes_lines path lines s reached
-goes_editing (editor.SetFunctionBreakpoints functions) s reached = goes_functions functions s reached
-goes_editing (editor.SetDataBreakpoints breakpoints) s reached =
-    still s (setting_data breakpoints s).state reached refl
-goes_editing (editor.SetInstructionBreakpoints breakpoints) s reached =
-    still s (setting_instructions breakpoints s).state reached refl
-goes_editing (editor.SetExceptionBreakpoints filters) s reached =
-    still s (with_filters filters s) reached refl
-goes_editing (editor.WriteMemory address offset bytes) s reached = goes_writing address offset bytes s reached
-goes_editing (editor.Goto target) s reached = goes_to target s reached
-goes_editing (editor.Evaluate expression c format) s reached = goes_evaluating expression c format s reached
-goes_editing (editor.Variables c) s reached = goes_handling c s reached
-goes_editing editor.ExceptionInfo s reached = goes_explaining (exception_of s.settings.program) s reached
-goes_editing other s reached = still s s reached refl
+goes_editor editor.Terminate s reached = goes_terminating s reached
+goes_editor editor.ExceptionInfo s reached = goes_explaining (exception_of s.settings.program) s reached
+goes_editor (editor.Evaluate expression c format) s reached = goes_evaluating expression c format s reached
+goes_editor editor.LoadedSources s reached = still s s reached refl
+goes_editor (editor.StepBack by) s reached = still s s reached refl
+goes_editor editor.ReverseContinue s reached = still s s reached refl
+goes_editor (editor.Goto target) s reached = goes_to target s reached
+goes_editor (editor.OnSource path c) s reached = goes_source path c s reached
+goes_editor (editor.Breakpoints c) s reached = goes_breakpoints c s reached
+goes_editor (editor.Memory c) s reached = goes_memory c s reached
+goes_editor (editor.Variables c) s reached = goes_handling c s reached
 
 -- ---- all requests
 
 follows_asking : (a : RequestContent) (found : Option FileText) (s : SessionState) → IsReached (seen s)
     → FollowsTurn s (asking a found s)
-follows_asking (asked.Editor (editor.Launch l)) found s reached =
+follows_asking (asked.Load (load.Launch l)) found s reached =
     follows_launch s.settings.program l found s refl reached
-follows_asking (asked.Editor (editor.Restart l)) found s reached =
+follows_asking (asked.Load (load.Restart l)) found s reached =
     follows_restart s.settings.program l found s reached
 follows_asking (asked.Board c) found s reached = (goes_command c s reached).follows
 follows_asking (asked.Faulty f) found s reached = (still s s reached refl).follows
-follows_asking (asked.Editor c) found s reached = (goes_editing c s reached).follows
+follows_asking (asked.Editor c) found s reached = (goes_editor c s reached).follows
 
 follows_unless : (o : Option Text) (a : RequestContent) (found : Option FileText) (s : SessionState)
     → IsReached (seen s)
@@ -186,11 +201,10 @@ follows_turn a found s reached = follows_unless (objection a s) a found s reache
 
 quiet_asking : (a : RequestContent) (found : Option FileText) (s : SessionState) → IsReached (seen s)
     → is_live s.settings.program ≡ false → asks_to_load a ≡ false → (asking a found s).events ≡ []
-quiet_asking (asked.Editor (editor.Launch l)) found s reached dead is = absurd (true≢false is)
-quiet_asking (asked.Editor (editor.Restart l)) found s reached dead is = absurd (true≢false is)
+quiet_asking (asked.Load c) found s reached dead is = absurd (true≢false is)
 quiet_asking (asked.Board c) found s reached dead is = (goes_command c s reached).quiet dead
 quiet_asking (asked.Faulty f) found s reached dead is = refl
-quiet_asking (asked.Editor c) found s reached dead is = (goes_editing c s reached).quiet dead
+quiet_asking (asked.Editor c) found s reached dead is = (goes_editor c s reached).quiet dead
 
 quiet_unless : (o : Option Text) (a : RequestContent) (found : Option FileText) (s : SessionState)
     → IsReached (seen s)

@@ -23,6 +23,7 @@ use Rattle.dap_messages.specs.declared.message.ValueFormat.{ValueFormat}
 use Rattle.dap_requests.specs.declared.request.RequestContent.{RequestContent}
 use Rattle.dap_requests.specs.declared.request.RequestContent.TheVariants as asked
 use Rattle.dap_requests.specs.declared.request.EditorCommand.TheVariants as editor
+use Rattle.dap_requests.specs.declared.request.LoadCommand.TheVariants as load
 use Rattle.dap_requests.specs.declared.request.EvaluateContext.TheVariants as context
 use Rattle.dap_requests.specs.declared.request.Launch.{Launch as LaunchOf}
 use Rattle.dap_launch.specs.declared.load.LoadFault.{LoadFault}
@@ -60,7 +61,7 @@ use Rattle.dap_run.specs.Programs.{program_of}
 use Rattle.dap_breakpoints.specs.Reports.{all_changed}
 use Rattle.dap_session.specs.Launches.{started_follow, by_text, loading, loading_as, launching_over}
 use Rattle.dap_session.specs.Launches.{restarting_of}
-use Rattle.dap_session.specs.Requests.{objection, asking, asking_unless, replying, turn}
+use Rattle.dap_session.specs.Requests.{objection, asking, asking_unless, on_board, on_editor, turn}
 use Rattle.dap_session.specs.Slices.{Input, request, slice, caller_of, context_of, slicing, slice_told, step}
 use Rattle.dap_session.specs.Slices.{play_all}
 use Rattle.dap_session.specs.Laws.{caller_in, callers_answered, request_in, callers_asking, stdout_in}
@@ -181,11 +182,11 @@ silent_restart (Some p) l found s =
 
 silent_asking : (a : RequestContent) (found : Option FileText) (s : SessionState)
     → IsSilent (asking a found s).events
-silent_asking (asked.Editor (editor.Launch l)) found s = silent_launch s.settings.program l found s
-silent_asking (asked.Editor (editor.Restart l)) found s = silent_restart s.settings.program l found s
-silent_asking (asked.Board c) found s = silent_follow (replying (asked.Board c) s).follow
-silent_asking (asked.Faulty f) found s = silent_follow (replying (asked.Faulty f) s).follow
-silent_asking other found s = silent_follow (replying other s).follow
+silent_asking (asked.Load (load.Launch l)) found s = silent_launch s.settings.program l found s
+silent_asking (asked.Load (load.Restart l)) found s = silent_restart s.settings.program l found s
+silent_asking (asked.Board c) found s = silent_follow (on_board c s).follow
+silent_asking (asked.Editor c) found s = silent_follow (on_editor c s).follow
+silent_asking (asked.Faulty f) found s = refl
 
 silent_unless : (o : Option Text) (a : RequestContent) (found : Option FileText) (s : SessionState)
     → IsSilent (asking_unless o a found s).events

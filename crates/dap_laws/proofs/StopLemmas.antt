@@ -397,6 +397,7 @@ quiet_slice finds v stands dead =
 meant_loads : (has_commands : Bool) (a : RequestContent) → asks_to_load (as_meant has_commands a)
     ≡ asks_to_load a
 meant_loads false a = refl
+meant_loads true (asked.Load c) = refl
 meant_loads true (asked.Board c) = refl
 meant_loads true (asked.Faulty fault) = refl
 meant_loads true (asked.Editor (editor.Evaluate line context.Repl format)) = refl

@@ -18,7 +18,7 @@ use Rattle.lab_core.specs.Events.{after_stop as board_stopped}
 use Rattle.dap_answers.specs.declared.answer.Body.{Body}
 use Rattle.dap_answers.specs.declared.answer.Body.TheVariants as body
 use Rattle.dap_answers.specs.declared.answer.StopReason.TheVariants.{Pause as ByPause}
-use Rattle.dap_talk.specs.declared.command.DapCommand.TheVariants as command
+use Rattle.dap_requests.specs.declared.request.BoardCommand.TheVariants as command
 use Rattle.dap_board.specs.Bodies.{body_of}
 use Rattle.dap_board.specs.Commands.{command_result, with_body}
 use Rattle.dap_messages.specs.declared.message.EditorStop.TheVariants.{Board as AtBoard, Goto}
@@ -36,8 +36,7 @@ use Rattle.dap_prompt.specs.declared.answer.VariablesAnswer.TheVariants.{Outcome
 use Rattle.dap_prompt.specs.Answers.{variables_answer}
 use Rattle.dap_points.specs.Points.{has_place}
 use Rattle.dap_run.specs.declared.messages.FollowUp.TheVariants as follow
-use Rattle.dap_run.specs.Boards.{after}
-use Rattle.dap_run.specs.Boards.{after_goto}
+use Rattle.dap_run.specs.Boards.{after, after_goto, board_result}
 use Rattle.dap_values.specs.Distances.{address_at}
 use Rattle.dap_run.specs.Refusals.{board_refusal}
 use Rattle.lab_core.specs.declared.fault.EventFault.TheVariants.{NotStopped}
@@ -139,7 +138,7 @@ goes_press (Some vector) expression format s reached =
     (kept_press vector s.board)
 
 goes_type : (text : Text) (s : SessionState) → IsReached (seen s)
-    → GoesBy s (command_reply (command_result (command.BoardType text) s.board) s)
+    → GoesBy s (command_reply (board_result (command.BoardType text) s.board) s)
 unfolding command_result
 goes_type text s reached =
     goes_command_reply (λ _. body.Empty) (result_of (event.Typed (latin_bytes text)) s.board) s reached

@@ -1,3 +1,4 @@
 pub mod Prompt
 pub mod Inputs
 pub mod Answers
+pub mod Effects

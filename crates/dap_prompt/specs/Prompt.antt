@@ -6,9 +6,8 @@ use Rattle.base_text.specs.Bytes.{Text}
 use Rattle.lab_shown.specs.declared.place.Place.TheVariants.{A}
 use Rattle.lab_views.specs.declared.poke_fault.PokeFault.{PokeFault}
 use Rattle.lab_views.specs.Values.{value_spelled}
-use Rattle.dap_talk.specs.declared.command.DapCommand.{DapCommand}
-use Rattle.dap_talk.specs.declared.command.DapCommand.TheVariants as command
-use Rattle.dap_board.specs.Commands.{IsPerformable}
+use Rattle.dap_requests.specs.declared.request.BoardCommand.{BoardCommand}
+use Rattle.dap_requests.specs.declared.request.BoardCommand.TheVariants as command
 use Rattle.dap_prompt.specs.declared.prompt.PromptCommand.{PromptCommand}
 use Rattle.dap_prompt.specs.declared.prompt.PromptCommand.TheVariants as prompt
 
@@ -25,15 +24,9 @@ value_in (Err fault) = None
 abbrev pub byte_spelled : Text → Option ℕ
 byte_spelled text = value_in (value_spelled A (trim text))
 
-abbrev pub byte_command : (ℕ → DapCommand) → Option ℕ → PromptCommand
+abbrev pub byte_command : (ℕ → BoardCommand) → Option ℕ → PromptCommand
 byte_command to_command (Some value) = prompt.Board (to_command value)
 byte_command to_command None = prompt.MissingByte
-
--- a command for the board is one that it can perform
-abbrev pub FitsBoard : PromptCommand → Type 0
-FitsBoard (prompt.Board c) = IsPerformable c
-FitsBoard prompt.MissingByte = Unit {0}
-FitsBoard prompt.Evaluate = Unit {0}
 
 -- `switches N`, `press N`, and `type TEXT`, which types a line
 abbrev pub command_with : Option Text → Option Text → Option Text → PromptCommand

@@ -117,40 +117,6 @@ fn or_message(
     }
 }
 
-/// The value that a command sets, or why it can't be set; `None` if the command sets none.
-pub fn value_set(
-    alloc: Global,
-    lab: &Lab,
-    command: &VariablesCommand,
-) -> Result<Option<Result<SetValue, Text>>, AllocError>
-    ensures { (b : Board) → RepresentsBoard lab.now b
-        → IfOk result (λ set. set ≡ answers.value_set command.now b) }
-{
-    match command {
-        VariablesCommand::SetVariable {
-            reference,
-            name,
-            value,
-            format,
-        } => {
-            let name = name.as_str();
-            let set = set_variable(alloc, lab, *reference, name, value.as_str(), *format);
-            let set = or_message(alloc, set)?;
-            Ok(Some(set))
-        }
-        VariablesCommand::SetExpression {
-            expression,
-            value,
-            format,
-        } => {
-            let set = set_expression(alloc, lab, expression.as_str(), value.as_str(), *format);
-            let set = or_message(alloc, set)?;
-            Ok(Some(set))
-        }
-        _ => Ok(None),
-    }
-}
-
 // ---- answers to commands
 
 /// What a command shows, or the value that it sets.

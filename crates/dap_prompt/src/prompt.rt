@@ -1,10 +1,9 @@
 //! Lines of the debugger's prompt.
 ghost use Rattle.std.specs.Prelude.{◌≡◌, ◌++◌, IfOk, option_map, is_some, codes};
-ghost use Rattle.dap_prompt.specs.Prompt.{behind, byte_spelled, byte_command, FitsBoard};
-ghost use Rattle.dap_prompt.specs.Prompt.{prompt_command};
+ghost use Rattle.dap_prompt.specs.Prompt.{behind, byte_spelled, byte_command, prompt_command};
 
 use base_text::text::Text;
-use dap_talk::command::DapCommand;
+use dap_requests::request::BoardCommand;
 use lab_shown::place::Place;
 use lab_views::value::value_of;
 use std::alloc::{AllocError, Global};
@@ -12,7 +11,7 @@ use std::alloc::{AllocError, Global};
 /// What a line of the prompt asks for.
 #[derive(Drop)]
 pub enum PromptCommand {
-    Board(DapCommand),
+    Board(BoardCommand),
     /// The word of a command whose number from 0 to 255 is missing.
     MissingByte,
     /// The value of the line as an expression.
@@ -46,45 +45,37 @@ fn byte_spelled(text: &str) -> Option<u8>
 }
 
 fn switches_command(number: &str) -> PromptCommand
-    ensures command { result
-        ≡ byte_command (λ value. DapCommand.BoardSwitches value) (byte_spelled number.now) }
-    ensures fits { FitsBoard result }
+    ensures { result ≡ byte_command (λ value. BoardCommand.BoardSwitches value) (byte_spelled number.now) }
 {
     match byte_spelled(number) {
-        Some(value) => PromptCommand::Board(DapCommand::BoardSwitches { value }),
+        Some(value) => PromptCommand::Board(BoardCommand::BoardSwitches(value)),
         None => PromptCommand::MissingByte,
     }
 }
 
 fn press_command(number: &str) -> PromptCommand
-    ensures command { result
-        ≡ byte_command (λ vector. DapCommand.BoardPress vector) (byte_spelled number.now) }
-    ensures fits { FitsBoard result }
+    ensures { result ≡ byte_command (λ vector. BoardCommand.BoardPress vector) (byte_spelled number.now) }
 {
     match byte_spelled(number) {
-        Some(vector) => PromptCommand::Board(DapCommand::BoardPress { vector }),
+        Some(vector) => PromptCommand::Board(BoardCommand::BoardPress(vector)),
         None => PromptCommand::MissingByte,
     }
 }
 
 fn type_command(alloc: Global, line: &str) -> Result<PromptCommand, AllocError>
-    ensures command { IfOk result (λ command. command
-        ≡ PromptCommand.Board (DapCommand.BoardType (line.now ++ codes "\n"))) }
-    ensures fits { IfOk result FitsBoard }
+    ensures { IfOk result (λ command. command
+        ≡ PromptCommand.Board (BoardCommand.BoardType (line.now ++ codes "\n"))) }
 {
     let mut text = String::new(alloc);
     text.push_str(line)?;
     text.push_str("\n")?;
-    Ok(PromptCommand::Board(DapCommand::BoardType {
-        text: Text::from(text),
-    }))
+    Ok(PromptCommand::Board(BoardCommand::BoardType(Text::from(text))))
 }
 
 /// What a line of the prompt asks for: `switches N` or `press N`, with a number from 0 to 255 as the
 /// assembler reads it; `type TEXT`, which types the text and a line feed; or else the value of an expression.
 pub fn prompt_command(alloc: Global, text: &str) -> Result<PromptCommand, AllocError>
-    ensures command { IfOk result (λ command. command ≡ prompt_command text.now) }
-    ensures fits { IfOk result FitsBoard }
+    ensures { IfOk result (λ command. command ≡ prompt_command text.now) }
 {
     if let Some(number) = behind("switches ", text) {
         return Ok(switches_command(number));

@@ -39,8 +39,12 @@ use Rattle.dap_reading.specs.declared.name.EditorName.{EditorName}
 use Rattle.dap_reading.specs.declared.name.EditorName.TheVariants as name
 use Rattle.dap_requests.specs.declared.request.EvaluateContext.TheVariants.{Other}
 use Rattle.dap_requests.specs.declared.request.Launch.{Launch}
-use Rattle.dap_requests.specs.declared.request.VariablesCommand.{VariablesCommand}
-use Rattle.dap_requests.specs.declared.request.EditorCommand.{EditorCommand}
+use Rattle.dap_requests.specs.declared.request.RequestContent.{RequestContent}
+use Rattle.dap_requests.specs.declared.request.RequestContent.TheVariants.{Load, Editor}
+use Rattle.dap_requests.specs.declared.request.LoadCommand.TheVariants as load
+use Rattle.dap_requests.specs.declared.request.SourceCommand.TheVariants as on_source
+use Rattle.dap_requests.specs.declared.request.BreakpointsCommand.TheVariants as breakpoints
+use Rattle.dap_requests.specs.declared.request.MemoryCommand.TheVariants as memory
 use Rattle.dap_requests.specs.declared.request.EditorCommand.TheVariants as command
 use Rattle.dap_requests.specs.declared.request.VariablesCommand.TheVariants as variables
 use Rattle.dap_reading.specs.EditorArgument.{context, value_format, operand_style, filters}
@@ -84,19 +88,19 @@ Ok value then_with f = f value
 Err name then_with f = Err name
 
 -- lines and columns count from 1 if nothing else is wanted
-abbrev pub initialize_asked : Data → Result EditorCommand Text
+abbrev pub initialize_asked : Data → Result RequestContent Text
 initialize_asked d =
     value_or (codes "supportsInvalidatedEvent") as_bool false d then_with λ invalidated.
     value_or (codes "supportsMemoryEvent") as_bool false d then_with λ memory.
     value_or (codes "linesStartAt1") as_bool true d then_with λ lines_at_1.
     value_or (codes "columnsStartAt1") as_bool true d then_with λ columns_at_1.
-    Ok (command.Initialize
+    Ok (Editor (command.Initialize
     (record { invalidated = invalidated; memory = memory })
-    (record { lines_start_at_1 = lines_at_1; columns_start_at_1 = columns_at_1 }))
+    (record { lines_start_at_1 = lines_at_1; columns_start_at_1 = columns_at_1 })))
 
 -- the bytes of a program begin at 0 if nothing else is wanted
-abbrev pub launch_asked : Data → Result Launch Text
-launch_asked d =
+abbrev pub launch_of : Data → Result Launch Text
+launch_of d =
     required_value (codes "program") as_str d then_with λ program.
     value_or (codes "stopOnEntry") as_bool false d then_with λ stops_on_entry.
     value_or (codes "stopAtEnd") as_bool false d then_with λ stops_at_end.
@@ -121,6 +125,11 @@ launch_asked d =
       start = start;
     })
 
+abbrev pub launch_asked : Data → Result RequestContent Text
+launch_asked d =
+    launch_of d then_with λ launch.
+    Ok (Load (load.Launch launch))
+
 -- not absent, and not `null`
 abbrev pub is_something : Option Data → Bool
 is_something None = false
@@ -132,106 +141,129 @@ has_arguments d = is_something (get (codes "arguments") d)
 abbrev pub launch_with : Option Data → Result (Option Launch) Text
 launch_with None = Ok None
 launch_with (Some d) =
-    if has_arguments d then (launch_asked d then_with λ launch. Ok (Some launch)) else Ok None
+    if has_arguments d then (launch_of d then_with λ launch. Ok (Some launch)) else Ok None
 
 -- The arguments of a restart have those of a launch at their key `arguments`, and so are read as a launch's
 -- request is.
-abbrev pub restart_asked : Data → Result (Option Launch) Text
-restart_asked d = launch_with (get (codes "arguments") d)
+abbrev pub changed_launch : Data → Result (Option Launch) Text
+changed_launch d = launch_with (get (codes "arguments") d)
+
+abbrev pub restart_asked : Data → Result RequestContent Text
+restart_asked d =
+    changed_launch d then_with λ launch.
+    Ok (Load (load.Restart launch))
 
 -- the path of a source
 abbrev pub source : Data → Result Text Text
 source = required_value (codes "source") (text_at (codes "path"))
 
 -- no list of breakpoints is an empty one
-abbrev pub set_breakpoints_asked : Numbering → Data → Result EditorCommand Text
+abbrev pub set_breakpoints_asked : Numbering → Data → Result RequestContent Text
 set_breakpoints_asked numbering d =
     source d then_with λ path.
-    value_or (codes "breakpoints") (lines numbering) [] d then_with λ breakpoints.
-    Ok (command.SetBreakpoints path breakpoints)
+    value_or (codes "breakpoints") (lines numbering) [] d then_with λ its_lines.
+    Ok (Editor (command.OnSource path (on_source.SetBreakpoints its_lines)))
 
-abbrev pub set_function_breakpoints_asked : Data → Result EditorCommand Text
+abbrev pub set_function_breakpoints_asked : Data → Result RequestContent Text
 set_function_breakpoints_asked d =
-    required_value (codes "breakpoints") functions d then_with λ breakpoints.
-    Ok (command.SetFunctionBreakpoints breakpoints)
+    required_value (codes "breakpoints") functions d then_with λ wanted.
+    Ok (Editor (command.Breakpoints (breakpoints.SetFunctionBreakpoints wanted)))
 
-abbrev pub set_data_breakpoints_asked : Data → Result EditorCommand Text
+-- none if no filters are named
+abbrev pub set_exception_breakpoints_asked : Data → Result RequestContent Text
+set_exception_breakpoints_asked d =
+    value_or (codes "filters") filters no_filters d then_with λ wanted.
+    Ok (Editor (command.Breakpoints (breakpoints.SetExceptionBreakpoints wanted)))
+
+abbrev pub set_data_breakpoints_asked : Data → Result RequestContent Text
 set_data_breakpoints_asked d =
-    required_value (codes "breakpoints") data_breakpoints d then_with λ breakpoints.
-    Ok (command.SetDataBreakpoints breakpoints)
+    required_value (codes "breakpoints") data_breakpoints d then_with λ wanted.
+    Ok (Editor (command.Breakpoints (breakpoints.SetDataBreakpoints wanted)))
 
-abbrev pub set_instruction_breakpoints_asked : Data → Result EditorCommand Text
+abbrev pub set_instruction_breakpoints_asked : Data → Result RequestContent Text
 set_instruction_breakpoints_asked d =
-    required_value (codes "breakpoints") instructions d then_with λ breakpoints.
-    Ok (command.SetInstructionBreakpoints breakpoints)
+    required_value (codes "breakpoints") instructions d then_with λ wanted.
+    Ok (Editor (command.Breakpoints (breakpoints.SetInstructionBreakpoints wanted)))
 
 -- an expression if no scope is named, and one byte if no number of them is
-abbrev pub data_breakpoint_info_asked : Data → Result EditorCommand Text
+abbrev pub data_breakpoint_info_asked : Data → Result RequestContent Text
 data_breakpoint_info_asked d =
     value_or (codes "variablesReference") any_number 0 d then_with λ scope.
     required_value (codes "name") as_str d then_with λ text.
     value_or (codes "bytes") any_number 1 d then_with λ count.
     value_or (codes "asAddress") as_bool false d then_with λ is_address.
-    Ok (command.DataBreakpointInfo (record {
+    Ok (Editor (command.Breakpoints (breakpoints.DataBreakpointInfo (record {
       scope = scope;
       name = text;
       count = count;
       is_address = is_address;
-    }))
+    }))))
 
 -- the last line is the first one if it is absent
-abbrev pub breakpoint_locations_asked : Numbering → Data → Result EditorCommand Text
+abbrev pub breakpoint_locations_asked : Numbering → Data → Result RequestContent Text
 breakpoint_locations_asked numbering d =
     source d then_with λ path.
     required_value (codes "line") any_number d then_with λ first.
     value_or (codes "endLine") any_number first d then_with λ last.
-    Ok (command.BreakpointLocations path (line_meant numbering first) (line_meant numbering last))
+    Ok (Editor (command.OnSource path
+    (on_source.BreakpointLocations (line_meant numbering first) (line_meant numbering last))))
 
 -- in hexadecimal if nothing else is wanted
 abbrev pub format : Data → Result ValueFormat Text
 format = value_or (codes "format") value_format Hexadecimal
 
-abbrev pub evaluate_asked : Data → Result EditorCommand Text
+abbrev pub evaluate_asked : Data → Result RequestContent Text
 evaluate_asked d =
     required_value (codes "expression") as_str d then_with λ expression.
     value_or (codes "context") context Other d then_with λ where_shown.
     format d then_with λ its_format.
-    Ok (command.Evaluate expression where_shown its_format)
+    Ok (Editor (command.Evaluate expression where_shown its_format))
 
-abbrev pub read_memory_asked : Data → Result EditorCommand Text
+abbrev pub read_memory_asked : Data → Result RequestContent Text
 read_memory_asked d =
     memory_reference d then_with λ from.
     offset d then_with λ bytes.
     required_value (codes "count") any_number d then_with λ count.
-    Ok (command.ReadMemory from bytes count)
+    Ok (Editor (command.Memory (memory.ReadMemory from bytes count)))
 
-abbrev pub write_memory_asked : Data → Result EditorCommand Text
+abbrev pub write_memory_asked : Data → Result RequestContent Text
 write_memory_asked d =
     memory_reference d then_with λ to.
     offset d then_with λ bytes.
     required_value (codes "data") base64 d then_with λ content.
-    Ok (command.WriteMemory to bytes content)
+    Ok (Editor (command.Memory (memory.WriteMemory to bytes content)))
 
 -- operands are numbers if nothing else is wanted
-abbrev pub disassemble_asked : Data → Result EditorCommand Text
+abbrev pub disassemble_asked : Data → Result RequestContent Text
 disassemble_asked d =
     memory_reference d then_with λ from.
     offset d then_with λ bytes.
     value_or (codes "instructionOffset") (shift 65536) (Forward 0) d then_with λ instructions.
     required_value (codes "instructionCount") (whole_between 1 1024) d then_with λ count.
     value_or (codes "resolveSymbols") operand_style Numbers d then_with λ operands.
-    Ok (command.Disassemble from bytes instructions count operands)
+    Ok (Editor (command.Memory (memory.Disassemble from bytes instructions count operands)))
 
-abbrev pub goto_targets_asked : Numbering → Data → Result EditorCommand Text
+-- by a line if nothing else is wanted
+abbrev pub step_back_asked : Data → Result RequestContent Text
+step_back_asked d =
+    value_or (codes "granularity") granularity Line d then_with λ by.
+    Ok (Editor (command.StepBack by))
+
+abbrev pub goto_asked : Data → Result RequestContent Text
+goto_asked d =
+    required_value (codes "targetId") word d then_with λ target.
+    Ok (Editor (command.Goto target))
+
+abbrev pub goto_targets_asked : Numbering → Data → Result RequestContent Text
 goto_targets_asked numbering d =
     source d then_with λ path.
     required_value (codes "line") any_number d then_with λ line.
-    Ok (command.GotoTargets path (line_meant numbering line))
+    Ok (Editor (command.OnSource path (on_source.GotoTargets (line_meant numbering line))))
 
-abbrev pub scopes_asked : Data → Result VariablesCommand Text
+abbrev pub scopes_asked : Data → Result RequestContent Text
 scopes_asked d =
     required_value (codes "frameId") any_number d then_with λ frame.
-    Ok (variables.Scopes frame)
+    Ok (Editor (command.Variables (variables.Scopes frame)))
 
 abbrev pub scope : Data → Result ℕ Text
 scope = required_value (codes "variablesReference") any_number
@@ -240,84 +272,64 @@ abbrev pub new_value : Data → Result Text Text
 new_value = required_value (codes "value") as_str
 
 -- from the first on, and as many as are shown by default, if nothing else is wanted
-abbrev pub variables_asked : Data → Result VariablesCommand Text
+abbrev pub variables_asked : Data → Result RequestContent Text
 variables_asked d =
     scope d then_with λ its_scope.
     value_or (codes "start") any_number 0 d then_with λ start.
     value_or (codes "count") any_number 0 d then_with λ count.
     format d then_with λ its_format.
-    Ok (variables.Variables its_scope start count its_format)
+    Ok (Editor (command.Variables (variables.Variables its_scope start count its_format)))
 
-abbrev pub set_variable_asked : Data → Result VariablesCommand Text
+abbrev pub set_variable_asked : Data → Result RequestContent Text
 set_variable_asked d =
     scope d then_with λ its_scope.
     required_value (codes "name") as_str d then_with λ text.
     new_value d then_with λ value.
     format d then_with λ its_format.
-    Ok (variables.SetVariable its_scope text value its_format)
+    Ok (Editor (command.Variables (variables.SetVariable its_scope text value its_format)))
 
-abbrev pub set_expression_asked : Data → Result VariablesCommand Text
+abbrev pub set_expression_asked : Data → Result RequestContent Text
 set_expression_asked d =
     required_value (codes "expression") as_str d then_with λ expression.
     new_value d then_with λ value.
     format d then_with λ its_format.
-    Ok (variables.SetExpression expression value its_format)
+    Ok (Editor (command.Variables (variables.SetExpression expression value its_format)))
 
-abbrev pub completions_asked : Numbering → Data → Result VariablesCommand Text
+abbrev pub completions_asked : Numbering → Data → Result RequestContent Text
 completions_asked numbering d =
     required_value (codes "text") as_str d then_with λ text.
     required_value (codes "column") any_number d then_with λ column.
-    Ok (variables.Completions text (column_meant numbering column))
+    Ok (Editor (command.Variables (variables.Completions text (column_meant numbering column))))
 
 -- the command that a request makes with this name, or the name of its first bad argument, where lines and
 -- columns count so
-abbrev pub command_asked : Numbering → EditorName → Data → Result EditorCommand Text
+abbrev pub command_asked : Numbering → EditorName → Data → Result RequestContent Text
 command_asked numbering name.Initialize d = initialize_asked d
-command_asked numbering name.Launch d =
-    launch_asked d then_with λ launch.
-    Ok (command.Launch launch)
-command_asked numbering name.Restart d =
-    restart_asked d then_with λ launch.
-    Ok (command.Restart launch)
-command_asked numbering name.Terminate d = Ok command.Terminate
+command_asked numbering name.Launch d = launch_asked d
+command_asked numbering name.Restart d = restart_asked d
+command_asked numbering name.Terminate d = Ok (Editor command.Terminate)
 command_asked numbering name.SetBreakpoints d = set_breakpoints_asked numbering d
 command_asked numbering name.SetFunctionBreakpoints d = set_function_breakpoints_asked d
-command_asked numbering name.SetExceptionBreakpoints d =
-    value_or (codes "filters") filters no_filters d then_with λ wanted.
-    Ok (command.SetExceptionBreakpoints wanted)
+command_asked numbering name.SetExceptionBreakpoints d = set_exception_breakpoints_asked d
 command_asked numbering name.DataBreakpointInfo d = data_breakpoint_info_asked d
 command_asked numbering name.SetDataBreakpoints d = set_data_breakpoints_asked d
 command_asked numbering name.SetInstructionBreakpoints d = set_instruction_breakpoints_asked d
 command_asked numbering name.BreakpointLocations d = breakpoint_locations_asked numbering d
-command_asked numbering name.ExceptionInfo d = Ok command.ExceptionInfo
+command_asked numbering name.ExceptionInfo d = Ok (Editor command.ExceptionInfo)
 command_asked numbering name.Evaluate d = evaluate_asked d
 command_asked numbering name.ReadMemory d = read_memory_asked d
 command_asked numbering name.WriteMemory d = write_memory_asked d
 command_asked numbering name.Disassemble d = disassemble_asked d
-command_asked numbering name.LoadedSources d = Ok command.LoadedSources
-command_asked numbering name.StepBack d =
-    value_or (codes "granularity") granularity Line d then_with λ by.
-    Ok (command.StepBack by)
-command_asked numbering name.ReverseContinue d = Ok command.ReverseContinue
+command_asked numbering name.LoadedSources d = Ok (Editor command.LoadedSources)
+command_asked numbering name.StepBack d = step_back_asked d
+command_asked numbering name.ReverseContinue d = Ok (Editor command.ReverseContinue)
 command_asked numbering name.GotoTargets d = goto_targets_asked numbering d
-command_asked numbering name.Goto d =
-    required_value (codes "targetId") word d then_with λ target.
-    Ok (command.Goto target)
-command_asked numbering name.Scopes d =
-    scopes_asked d then_with λ its_command.
-    Ok (command.Variables its_command)
-command_asked numbering name.Variables d =
-    variables_asked d then_with λ its_command.
-    Ok (command.Variables its_command)
-command_asked numbering name.SetVariable d =
-    set_variable_asked d then_with λ its_command.
-    Ok (command.Variables its_command)
-command_asked numbering name.SetExpression d =
-    set_expression_asked d then_with λ its_command.
-    Ok (command.Variables its_command)
-command_asked numbering name.Completions d =
-    completions_asked numbering d then_with λ its_command.
-    Ok (command.Variables its_command)
+command_asked numbering name.Goto d = goto_asked d
+command_asked numbering name.Scopes d = scopes_asked d
+command_asked numbering name.Variables d = variables_asked d
+command_asked numbering name.SetVariable d = set_variable_asked d
+command_asked numbering name.SetExpression d = set_expression_asked d
+command_asked numbering name.Completions d = completions_asked numbering d
 
 -- ---- the names
 

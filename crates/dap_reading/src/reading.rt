@@ -11,10 +11,13 @@ ghost use Rattle.dap_reading.specs.Table.{set_data_breakpoints_asked, set_instru
 ghost use Rattle.dap_reading.specs.Table.{breakpoint_locations_asked};
 ghost use Rattle.dap_reading.specs.Table.{data_breakpoint_info_asked, scopes_asked, variables_asked};
 ghost use Rattle.dap_reading.specs.Table.{set_variable_asked, set_expression_asked, completions_asked};
-ghost use Rattle.dap_reading.specs.Table.{has_arguments, restart_asked};
+ghost use Rattle.dap_reading.specs.Table.{has_arguments, launch_of, changed_launch, restart_asked};
+ghost use Rattle.dap_reading.specs.Table.{set_exception_breakpoints_asked, step_back_asked, goto_asked};
+ghost use Rattle.dap_requests.specs.Board.{board_command};
 ghost use Rattle.dap_reading.specs.Reading.{has_null_arguments, bare_request, asked_of_board};
+ghost use Rattle.dap_reading.specs.Reading.{asked_of_kernel};
 ghost use Rattle.dap_reading.specs.Reading.{asked_of_editor};
-ghost use Rattle.dap_reading.specs.Reading.{asked_by, unreadable, editor_request, IsCommandBounded};
+ghost use Rattle.dap_reading.specs.Reading.{asked_by, unreadable, editor_request};
 ghost use Rattle.dap_reading.specs.Reading.{IsBounded};
 
 use crate::arguments::{
@@ -30,24 +33,26 @@ use crate::name::EditorName;
 use base_text::text::Text;
 use dap_answers::object::Object;
 use dap_messages::message::Numbering;
+use dap_requests::board::board_command;
 use dap_requests::request::{
-    DataQuery, EditorCommand, EditorRequest, Launch, RequestContent, RequestFault, SupportedEvents,
-    VariablesCommand,
+    BreakpointsCommand, DataQuery, EditorCommand, EditorRequest, Launch, LoadCommand,
+    MemoryCommand, RequestContent, RequestFault, SourceCommand, SupportedEvents, VariablesCommand,
 };
+use dap_talk::command::DapCommand;
 use dap_talk::fault::DapFault;
 use dap_talk::reading::{envelope_of, read_request};
 use serde_json::Value;
 use std::alloc::{AllocError, Global};
 
-fn initialize(request: &Value) -> Result<EditorCommand, ArgumentFault>
+fn initialize(request: &Value) -> Result<RequestContent, ArgumentFault>
     ensures answer { Answers (initialize_asked (view request.now)) result }
-    ensures bounded { IfOk result (λ c. IsCommandBounded c) }
+    ensures bounded { IfOk result (λ a. IsBounded a) }
 {
     let invalidated = truth_or(request, "supportsInvalidatedEvent", false)?;
     let memory = truth_or(request, "supportsMemoryEvent", false)?;
     let lines_start_at_1 = truth_or(request, "linesStartAt1", true)?;
     let columns_start_at_1 = truth_or(request, "columnsStartAt1", true)?;
-    Ok(EditorCommand::Initialize {
+    Ok(RequestContent::Editor(EditorCommand::Initialize {
         supported: SupportedEvents {
             invalidated,
             memory,
@@ -56,11 +61,11 @@ fn initialize(request: &Value) -> Result<EditorCommand, ArgumentFault>
             lines_start_at_1,
             columns_start_at_1,
         },
-    })
+    }))
 }
 
-fn launch(alloc: Global, request: &Value) -> Result<Launch, ArgumentFault>
-    ensures { Answers (launch_asked (view request.now)) result }
+fn launch_of(alloc: Global, request: &Value) -> Result<Launch, ArgumentFault>
+    ensures { Answers (launch_of (view request.now)) result }
 {
     let program = text_at(request, "program")?;
     let stops_on_entry = truth_or(request, "stopOnEntry", false)?;
@@ -99,194 +104,249 @@ fn has_arguments(request: &Value) -> bool
     }
 }
 
-fn restart(alloc: Global, request: &Value) -> Result<Option<Launch>, ArgumentFault>
-    ensures { Answers (restart_asked (view request.now)) result }
+fn launch(alloc: Global, request: &Value) -> Result<RequestContent, ArgumentFault>
+    ensures answer { Answers (launch_asked (view request.now)) result }
+    ensures bounded { IfOk result (λ a. IsBounded a) }
+{
+    let launch = launch_of(alloc, request)?;
+    Ok(RequestContent::Load(LoadCommand::Launch(launch)))
+}
+
+fn changed_launch(alloc: Global, request: &Value) -> Result<Option<Launch>, ArgumentFault>
+    ensures { Answers (changed_launch (view request.now)) result }
 {
     match request.get("arguments") {
-        Some(own) if has_arguments(own) => Ok(Some(launch(alloc, own)?)),
+        Some(own) if has_arguments(own) => Ok(Some(launch_of(alloc, own)?)),
         _ => Ok(None),
     }
+}
+
+fn restart(alloc: Global, request: &Value) -> Result<RequestContent, ArgumentFault>
+    ensures answer { Answers (restart_asked (view request.now)) result }
+    ensures bounded { IfOk result (λ a. IsBounded a) }
+{
+    let changed = changed_launch(alloc, request)?;
+    Ok(RequestContent::Load(LoadCommand::Restart(changed)))
 }
 
 fn set_breakpoints(
     alloc: Global,
     numbering: Numbering,
     request: &Value,
-) -> Result<EditorCommand, ArgumentFault>
+) -> Result<RequestContent, ArgumentFault>
     ensures answer { Answers (set_breakpoints_asked numbering (view request.now)) result }
-    ensures bounded { IfOk result (λ c. IsCommandBounded c) }
+    ensures bounded { IfOk result (λ a. IsBounded a) }
 {
     let path = path_at(request, "source")?;
     let lines = lines_or_none(alloc, numbering, request, "breakpoints")?;
     let path = Text::copy_of(alloc, path)?;
-    Ok(EditorCommand::SetBreakpoints { path, lines })
+    Ok(RequestContent::Editor(EditorCommand::OnSource {
+        path,
+        command: SourceCommand::SetBreakpoints(lines),
+    }))
 }
 
-fn set_function_breakpoints(alloc: Global, request: &Value) -> Result<EditorCommand, ArgumentFault>
+fn set_function_breakpoints(alloc: Global, request: &Value) -> Result<RequestContent, ArgumentFault>
     ensures answer { Answers (set_function_breakpoints_asked (view request.now)) result }
-    ensures bounded { IfOk result (λ c. IsCommandBounded c) }
+    ensures bounded { IfOk result (λ a. IsBounded a) }
 {
     let functions = functions_at(alloc, request, "breakpoints")?;
-    Ok(EditorCommand::SetFunctionBreakpoints(functions))
+    Ok(RequestContent::Editor(EditorCommand::Breakpoints(BreakpointsCommand::SetFunctionBreakpoints(
+        functions,
+    ))))
 }
 
-fn data_breakpoint_info(alloc: Global, request: &Value) -> Result<EditorCommand, ArgumentFault>
+fn set_exception_breakpoints(request: &Value) -> Result<RequestContent, ArgumentFault>
+    ensures answer { Answers (set_exception_breakpoints_asked (view request.now)) result }
+    ensures bounded { IfOk result (λ a. IsBounded a) }
+{
+    let filters = filters_or_none(request)?;
+    Ok(RequestContent::Editor(EditorCommand::Breakpoints(
+        BreakpointsCommand::SetExceptionBreakpoints(filters),
+    )))
+}
+
+fn data_breakpoint_info(alloc: Global, request: &Value) -> Result<RequestContent, ArgumentFault>
     ensures answer { Answers (data_breakpoint_info_asked (view request.now)) result }
-    ensures bounded { IfOk result (λ c. IsCommandBounded c) }
+    ensures bounded { IfOk result (λ a. IsBounded a) }
 {
     let scope = number_or(request, "variablesReference", 0)?;
     let name = text_at(request, "name")?;
     let count = number_or(request, "bytes", 1)?;
     let is_address = truth_or(request, "asAddress", false)?;
     let name = Text::copy_of(alloc, name)?;
-    Ok(EditorCommand::DataBreakpointInfo(DataQuery {
-        scope,
-        name,
-        count,
-        is_address,
-    }))
+    Ok(RequestContent::Editor(EditorCommand::Breakpoints(BreakpointsCommand::DataBreakpointInfo(
+        DataQuery {
+            scope,
+            name,
+            count,
+            is_address,
+        },
+    ))))
 }
 
-fn set_data_breakpoints(alloc: Global, request: &Value) -> Result<EditorCommand, ArgumentFault>
+fn set_data_breakpoints(alloc: Global, request: &Value) -> Result<RequestContent, ArgumentFault>
     ensures answer { Answers (set_data_breakpoints_asked (view request.now)) result }
-    ensures bounded { IfOk result (λ c. IsCommandBounded c) }
+    ensures bounded { IfOk result (λ a. IsBounded a) }
 {
     let breakpoints = data_breakpoints_at(alloc, request, "breakpoints")?;
-    Ok(EditorCommand::SetDataBreakpoints(breakpoints))
+    Ok(RequestContent::Editor(EditorCommand::Breakpoints(BreakpointsCommand::SetDataBreakpoints(
+        breakpoints,
+    ))))
 }
 
 fn set_instruction_breakpoints(
     alloc: Global,
     request: &Value,
-) -> Result<EditorCommand, ArgumentFault>
+) -> Result<RequestContent, ArgumentFault>
     ensures answer { Answers (set_instruction_breakpoints_asked (view request.now)) result }
-    ensures bounded { IfOk result (λ c. IsCommandBounded c) }
+    ensures bounded { IfOk result (λ a. IsBounded a) }
 {
     let breakpoints = instructions_at(alloc, request, "breakpoints")?;
-    Ok(EditorCommand::SetInstructionBreakpoints(breakpoints))
+    Ok(RequestContent::Editor(EditorCommand::Breakpoints(
+        BreakpointsCommand::SetInstructionBreakpoints(breakpoints),
+    )))
 }
 
 fn breakpoint_locations(
     alloc: Global,
     numbering: Numbering,
     request: &Value,
-) -> Result<EditorCommand, ArgumentFault>
+) -> Result<RequestContent, ArgumentFault>
     ensures answer { Answers (breakpoint_locations_asked numbering (view request.now)) result }
-    ensures bounded { IfOk result (λ c. IsCommandBounded c) }
+    ensures bounded { IfOk result (λ a. IsBounded a) }
 {
     let path = path_at(request, "source")?;
     let first = number_at(request, "line")?;
     let last = number_or(request, "endLine", first)?;
     let path = Text::copy_of(alloc, path)?;
-    Ok(EditorCommand::BreakpointLocations {
-        path,
+    let command = SourceCommand::BreakpointLocations {
         first: numbering.line_meant(first),
         last: numbering.line_meant(last),
-    })
+    };
+    Ok(RequestContent::Editor(EditorCommand::OnSource { path, command }))
 }
 
 fn goto_targets(
     alloc: Global,
     numbering: Numbering,
     request: &Value,
-) -> Result<EditorCommand, ArgumentFault>
+) -> Result<RequestContent, ArgumentFault>
     ensures answer { Answers (goto_targets_asked numbering (view request.now)) result }
-    ensures bounded { IfOk result (λ c. IsCommandBounded c) }
+    ensures bounded { IfOk result (λ a. IsBounded a) }
 {
     let path = path_at(request, "source")?;
     let line = number_at(request, "line")?;
     let path = Text::copy_of(alloc, path)?;
-    Ok(EditorCommand::GotoTargets {
-        path,
-        line: numbering.line_meant(line),
-    })
+    let line = numbering.line_meant(line);
+    let command = SourceCommand::GotoTargets { line };
+    Ok(RequestContent::Editor(EditorCommand::OnSource { path, command }))
 }
 
-fn evaluate(alloc: Global, request: &Value) -> Result<EditorCommand, ArgumentFault>
+fn step_back(request: &Value) -> Result<RequestContent, ArgumentFault>
+    ensures answer { Answers (step_back_asked (view request.now)) result }
+    ensures bounded { IfOk result (λ a. IsBounded a) }
+{
+    let by = granularity_or_line(request, "granularity")?;
+    Ok(RequestContent::Editor(EditorCommand::StepBack(by)))
+}
+
+fn goto(request: &Value) -> Result<RequestContent, ArgumentFault>
+    ensures answer { Answers (goto_asked (view request.now)) result }
+    ensures bounded { IfOk result (λ a. IsBounded a) }
+{
+    let target = word_at(request, "targetId")?;
+    Ok(RequestContent::Editor(EditorCommand::Goto { target }))
+}
+
+fn evaluate(alloc: Global, request: &Value) -> Result<RequestContent, ArgumentFault>
     ensures answer { Answers (evaluate_asked (view request.now)) result }
-    ensures bounded { IfOk result (λ c. IsCommandBounded c) }
+    ensures bounded { IfOk result (λ a. IsBounded a) }
 {
     let expression = text_at(request, "expression")?;
     let context = context_or_other(request, "context")?;
     let format = format_or_hexadecimal(request)?;
     let expression = Text::copy_of(alloc, expression)?;
-    Ok(EditorCommand::Evaluate {
+    Ok(RequestContent::Editor(EditorCommand::Evaluate {
         expression,
         context,
         format,
-    })
+    }))
 }
 
-fn read_memory(request: &Value) -> Result<EditorCommand, ArgumentFault>
+fn read_memory(request: &Value) -> Result<RequestContent, ArgumentFault>
     ensures answer { Answers (read_memory_asked (view request.now)) result }
-    ensures bounded { IfOk result (λ c. IsCommandBounded c) }
+    ensures bounded { IfOk result (λ a. IsBounded a) }
 {
     let address = memory_reference(request)?;
     let offset = offset(request)?;
     let count = number_at(request, "count")?;
-    Ok(EditorCommand::ReadMemory {
+    Ok(RequestContent::Editor(EditorCommand::Memory(MemoryCommand::ReadMemory {
         address,
         offset,
         count,
-    })
+    })))
 }
 
-fn write_memory(alloc: Global, request: &Value) -> Result<EditorCommand, ArgumentFault>
+fn write_memory(alloc: Global, request: &Value) -> Result<RequestContent, ArgumentFault>
     ensures answer { Answers (write_memory_asked (view request.now)) result }
-    ensures bounded { IfOk result (λ c. IsCommandBounded c) }
+    ensures bounded { IfOk result (λ a. IsBounded a) }
 {
     let address = memory_reference(request)?;
     let offset = offset(request)?;
     let bytes = bytes_at(alloc, request, "data")?;
-    Ok(EditorCommand::WriteMemory {
+    Ok(RequestContent::Editor(EditorCommand::Memory(MemoryCommand::WriteMemory {
         address,
         offset,
         bytes,
-    })
+    })))
 }
 
-fn disassemble(request: &Value) -> Result<EditorCommand, ArgumentFault>
+fn disassemble(request: &Value) -> Result<RequestContent, ArgumentFault>
     ensures answer { Answers (disassemble_asked (view request.now)) result }
-    ensures bounded { IfOk result (λ c. IsCommandBounded c) }
+    ensures bounded { IfOk result (λ a. IsBounded a) }
 {
     let address = memory_reference(request)?;
     let offset = offset(request)?;
     let instruction_offset = shift_or_0(request, "instructionOffset", 65536)?;
     let instruction_count = count_at(request, "instructionCount")?;
     let operands = operands_or_numbers(request)?;
-    Ok(EditorCommand::Disassemble {
+    Ok(RequestContent::Editor(EditorCommand::Memory(MemoryCommand::Disassemble {
         address,
         offset,
         instruction_offset,
         instruction_count,
         operands,
-    })
+    })))
 }
 
-fn scopes(request: &Value) -> Result<VariablesCommand, ArgumentFault>
-    ensures { Answers (scopes_asked (view request.now)) result }
+fn scopes(request: &Value) -> Result<RequestContent, ArgumentFault>
+    ensures answer { Answers (scopes_asked (view request.now)) result }
+    ensures bounded { IfOk result (λ a. IsBounded a) }
 {
     let frame = number_at(request, "frameId")?;
-    Ok(VariablesCommand::Scopes { frame })
+    Ok(RequestContent::Editor(EditorCommand::Variables(VariablesCommand::Scopes { frame })))
 }
 
-fn variables(request: &Value) -> Result<VariablesCommand, ArgumentFault>
-    ensures { Answers (variables_asked (view request.now)) result }
+fn variables(request: &Value) -> Result<RequestContent, ArgumentFault>
+    ensures answer { Answers (variables_asked (view request.now)) result }
+    ensures bounded { IfOk result (λ a. IsBounded a) }
 {
     let reference = number_at(request, "variablesReference")?;
     let start = number_or(request, "start", 0)?;
     let count = number_or(request, "count", 0)?;
     let format = format_or_hexadecimal(request)?;
-    Ok(VariablesCommand::Variables {
+    Ok(RequestContent::Editor(EditorCommand::Variables(VariablesCommand::Variables {
         reference,
         start,
         count,
         format,
-    })
+    })))
 }
 
-fn set_variable(alloc: Global, request: &Value) -> Result<VariablesCommand, ArgumentFault>
-    ensures { Answers (set_variable_asked (view request.now)) result }
+fn set_variable(alloc: Global, request: &Value) -> Result<RequestContent, ArgumentFault>
+    ensures answer { Answers (set_variable_asked (view request.now)) result }
+    ensures bounded { IfOk result (λ a. IsBounded a) }
 {
     let reference = number_at(request, "variablesReference")?;
     let name = text_at(request, "name")?;
@@ -294,43 +354,45 @@ fn set_variable(alloc: Global, request: &Value) -> Result<VariablesCommand, Argu
     let format = format_or_hexadecimal(request)?;
     let name = Text::copy_of(alloc, name)?;
     let value = Text::copy_of(alloc, value)?;
-    Ok(VariablesCommand::SetVariable {
+    Ok(RequestContent::Editor(EditorCommand::Variables(VariablesCommand::SetVariable {
         reference,
         name,
         value,
         format,
-    })
+    })))
 }
 
-fn set_expression(alloc: Global, request: &Value) -> Result<VariablesCommand, ArgumentFault>
-    ensures { Answers (set_expression_asked (view request.now)) result }
+fn set_expression(alloc: Global, request: &Value) -> Result<RequestContent, ArgumentFault>
+    ensures answer { Answers (set_expression_asked (view request.now)) result }
+    ensures bounded { IfOk result (λ a. IsBounded a) }
 {
     let expression = text_at(request, "expression")?;
     let value = text_at(request, "value")?;
     let format = format_or_hexadecimal(request)?;
     let expression = Text::copy_of(alloc, expression)?;
     let value = Text::copy_of(alloc, value)?;
-    Ok(VariablesCommand::SetExpression {
+    Ok(RequestContent::Editor(EditorCommand::Variables(VariablesCommand::SetExpression {
         expression,
         value,
         format,
-    })
+    })))
 }
 
 fn completions(
     alloc: Global,
     numbering: Numbering,
     request: &Value,
-) -> Result<VariablesCommand, ArgumentFault>
-    ensures { Answers (completions_asked numbering (view request.now)) result }
+) -> Result<RequestContent, ArgumentFault>
+    ensures answer { Answers (completions_asked numbering (view request.now)) result }
+    ensures bounded { IfOk result (λ a. IsBounded a) }
 {
     let text = text_at(request, "text")?;
     let column = number_at(request, "column")?;
     let text = Text::copy_of(alloc, text)?;
-    Ok(VariablesCommand::Completions {
+    Ok(RequestContent::Editor(EditorCommand::Variables(VariablesCommand::Completions {
         text,
         column: numbering.column_meant(column),
-    })
+    })))
 }
 
 fn read_command(
@@ -338,45 +400,37 @@ fn read_command(
     numbering: Numbering,
     name: EditorName,
     request: &Value,
-) -> Result<EditorCommand, ArgumentFault>
+) -> Result<RequestContent, ArgumentFault>
     ensures answer { Answers (command_asked numbering name (view request.now)) result }
-    ensures bounded { IfOk result (λ c. IsCommandBounded c) }
+    ensures bounded { IfOk result (λ a. IsBounded a) }
 {
     match name {
         EditorName::Initialize => initialize(request),
-        EditorName::Launch => Ok(EditorCommand::Launch(launch(alloc, request)?)),
-        EditorName::Restart => Ok(EditorCommand::Restart(restart(alloc, request)?)),
-        EditorName::Terminate => Ok(EditorCommand::Terminate),
+        EditorName::Launch => launch(alloc, request),
+        EditorName::Restart => restart(alloc, request),
+        EditorName::Terminate => Ok(RequestContent::Editor(EditorCommand::Terminate)),
         EditorName::SetBreakpoints => set_breakpoints(alloc, numbering, request),
         EditorName::SetFunctionBreakpoints => set_function_breakpoints(alloc, request),
-        EditorName::SetExceptionBreakpoints => {
-            Ok(EditorCommand::SetExceptionBreakpoints(filters_or_none(request)?))
-        }
+        EditorName::SetExceptionBreakpoints => set_exception_breakpoints(request),
         EditorName::DataBreakpointInfo => data_breakpoint_info(alloc, request),
         EditorName::SetDataBreakpoints => set_data_breakpoints(alloc, request),
         EditorName::SetInstructionBreakpoints => set_instruction_breakpoints(alloc, request),
         EditorName::BreakpointLocations => breakpoint_locations(alloc, numbering, request),
-        EditorName::ExceptionInfo => Ok(EditorCommand::ExceptionInfo),
+        EditorName::ExceptionInfo => Ok(RequestContent::Editor(EditorCommand::ExceptionInfo)),
         EditorName::Evaluate => evaluate(alloc, request),
         EditorName::ReadMemory => read_memory(request),
         EditorName::WriteMemory => write_memory(alloc, request),
         EditorName::Disassemble => disassemble(request),
-        EditorName::LoadedSources => Ok(EditorCommand::LoadedSources),
-        EditorName::StepBack => {
-            Ok(EditorCommand::StepBack(granularity_or_line(request, "granularity")?))
-        }
-        EditorName::ReverseContinue => Ok(EditorCommand::ReverseContinue),
+        EditorName::LoadedSources => Ok(RequestContent::Editor(EditorCommand::LoadedSources)),
+        EditorName::StepBack => step_back(request),
+        EditorName::ReverseContinue => Ok(RequestContent::Editor(EditorCommand::ReverseContinue)),
         EditorName::GotoTargets => goto_targets(alloc, numbering, request),
-        EditorName::Goto => Ok(EditorCommand::Goto {
-            target: word_at(request, "targetId")?,
-        }),
-        EditorName::Scopes => Ok(EditorCommand::Variables(scopes(request)?)),
-        EditorName::Variables => Ok(EditorCommand::Variables(variables(request)?)),
-        EditorName::SetVariable => Ok(EditorCommand::Variables(set_variable(alloc, request)?)),
-        EditorName::SetExpression => Ok(EditorCommand::Variables(set_expression(alloc, request)?)),
-        EditorName::Completions => {
-            Ok(EditorCommand::Variables(completions(alloc, numbering, request)?))
-        }
+        EditorName::Goto => goto(request),
+        EditorName::Scopes => scopes(request),
+        EditorName::Variables => variables(request),
+        EditorName::SetVariable => set_variable(alloc, request),
+        EditorName::SetExpression => set_expression(alloc, request),
+        EditorName::Completions => completions(alloc, numbering, request),
     }
 }
 
@@ -390,7 +444,7 @@ fn read_for_editor(
     ensures bounded { IfOk result (λ a. IsBounded a) }
 {
     match read_command(alloc, numbering, name, request) {
-        Ok(command) => Ok(RequestContent::Editor(command)),
+        Ok(asked) => Ok(asked),
         Err(ArgumentFault::OutOfMemory) => Err(AllocError),
         Err(ArgumentFault::Argument(name)) => {
             let name = Text::copy_of(alloc, name)?;
@@ -399,12 +453,23 @@ fn read_for_editor(
     }
 }
 
+// What a command of the kernel asks for, if editors send it with the same arguments.
+fn board_content(command: DapCommand) -> RequestContent
+    ensures read { result ≡ asked_of_kernel (board_command command) }
+    ensures bounded { IsBounded result }
+{
+    match board_command(command) {
+        Some(command) => RequestContent::Board(command),
+        None => RequestContent::Faulty(RequestFault::UnknownCommand),
+    }
+}
+
 fn read_for_board(alloc: Global, request: &Value) -> Result<RequestContent, AllocError>
     ensures read { IfOk result (λ a. a ≡ asked_of_board (reading (view request.now))) }
     ensures bounded { IfOk result (λ a. IsBounded a) }
 {
     match read_request(alloc, request) {
-        Ok(read) => Ok(RequestContent::Board(read.into_command())),
+        Ok(read) => Ok(board_content(read.into_command())),
         Err(DapFault::OutOfMemory) => Err(AllocError),
         Err(DapFault::NotRequest) => Ok(RequestContent::Faulty(RequestFault::NotRequest)),
         Err(DapFault::Command { .. }) => Ok(RequestContent::Faulty(RequestFault::UnknownCommand)),

@@ -1,6 +1,6 @@
 -- Requests to recorded sessions, and the states that they represent.
 use Rattle.std.proofs.Common.{◌≡◌, ◌∙◌, List, Bool, true, false, Option, Some, None, Result, Ok, Err, refl}
-use Rattle.std.proofs.Common.{ap, sym, subst, is_some, true≢false, IfOk}
+use Rattle.std.proofs.Common.{ap, sym, subst, is_some, true≢false, IfOk, ◌||◌}
 use Rattle.std.specs.declared.alloc.AllocError.{AllocError}
 use Rattle.base_text.specs.Bytes.{Text}
 use Rattle.lab_shown.specs.declared.shown.Shown.{Shown}
@@ -8,10 +8,19 @@ use Rattle.lab_views.specs.declared.fault.ViewFault.{ViewFault}
 use Rattle.lab_views.specs.declared.view.View.TheVariants as view
 use Rattle.lab_core.specs.Events.{as_answer, parts_of}
 use Rattle.lab_views.specs.Views.{view_of}
-use Rattle.dap_talk.specs.declared.command.DapCommand.{DapCommand}
-use Rattle.dap_talk.specs.declared.command.DapCommand.TheVariants as command
+use Rattle.dap_requests.specs.declared.request.BoardCommand.{BoardCommand}
+use Rattle.dap_requests.specs.declared.request.BoardCommand.TheVariants as command
+use Rattle.dap_requests.specs.declared.request.SourceCommand.{SourceCommand}
+use Rattle.dap_requests.specs.declared.request.SourceCommand.TheVariants as source
+use Rattle.dap_requests.specs.declared.request.BreakpointsCommand.{BreakpointsCommand}
+use Rattle.dap_requests.specs.declared.request.BreakpointsCommand.TheVariants as breakpoints
+use Rattle.dap_requests.specs.declared.request.MemoryCommand.{MemoryCommand}
+use Rattle.dap_requests.specs.declared.request.MemoryCommand.TheVariants as memory
+use Rattle.dap_requests.specs.declared.request.VariablesCommand.{VariablesCommand}
+use Rattle.dap_requests.specs.Traits.{mid_search, board_traits, source_traits, breakpoints_traits}
+use Rattle.dap_requests.specs.Traits.{memory_traits, variables_traits, editor_traits}
 use Rattle.dap_board.specs.Bodies.{body_of}
-use Rattle.dap_board.specs.Commands.{with_body, first_line, command_result}
+use Rattle.dap_board.specs.Commands.{with_body, command_result}
 use Rattle.dap_requests.specs.declared.request.VariablesCommand.TheVariants as variables
 use Rattle.dap_messages.specs.declared.message.Message.{Message}
 use Rattle.dap_messages.specs.declared.message.UndefinedOpcode.{UndefinedOpcode}
@@ -29,16 +38,17 @@ use Rattle.dap_prompt.specs.Inputs.{ends_question}
 use Rattle.dap_session.specs.States.{SessionState, with_waits, after_answer}
 use Rattle.dap_session.specs.Turns.{Replied}
 use Rattle.dap_session.specs.Requests as session
-use Rattle.dap_session.specs.Requests.{board_done, explaining, commanding, asking, asking_unless, objection}
+use Rattle.dap_session.specs.Requests.{board_done, explaining, on_board, on_source, on_breakpoints, on_memory}
+use Rattle.dap_session.specs.Requests.{on_editor, asking, asking_unless, objection}
+use Rattle.dap_session.specs.Evaluations.{handling}
 use Rattle.dap_session.specs.Represents as sessions
 use Rattle.dap_session.specs.Represents.{RepresentsSession, SessionFields}
 use Rattle.dap_session.specs.Slices.{told_in as sessions_told_in}
 use Rattle.dap_session.proofs.ShownLemmas.{handled_shown}
 use Rattle.dap_record.specs.Fields.{RecordingFields, GoalSearchFields, RecordedFields}
 use Rattle.dap_record.specs.declared.back.Back.{Back}
-use Rattle.dap_record.specs.declared.mid_search.MidSearch.TheVariants as mid
+use Rattle.dap_requests.specs.declared.traits.MidSearch.TheVariants as mid
 use Rattle.dap_record.specs.Backward.{going_back}
-use Rattle.dap_record.specs.MidSearch.{mid_search, mid_search_command, mid_search_editing}
 use Rattle.dap_record.specs.Turns.{turn, turn_in, turn_by, turn_searching, turn_of, recorded_turn, back_in}
 use Rattle.dap_record.specs.Turns.{looking}
 use Rattle.dap_record.specs.Slices.{slice_told, slice_in, run_told, search_told, told_in}
@@ -69,44 +79,58 @@ left_explained : (o : Option UndefinedOpcode) (s : SessionState) → (explaining
 left_explained None s = refl
 left_explained (Some undefined) s = refl
 
-left_command : (c : DapCommand) (s : SessionState) → mid_search_command c ≡ mid.Look
-    → (commanding c s).state ≡ s
+left_command : (c : BoardCommand) (s : SessionState) → (board_traits c).mid_search ≡ mid.Look
+    → (on_board c s).state ≡ s
 unfolding command_result
 left_command command.Threads s is = refl
 left_command (command.StackTrace start levels) s is = left_shown (view_of (view.Frames start levels)
     (parts_of s.board)) s
-left_command (command.Scopes frame) s is = left_shown (view_of (view.Scopes frame) (parts_of s.board)) s
-left_command (command.Variables reference start count) s is =
-    left_shown (view_of (view.Variables reference start count) (parts_of s.board)) s
-left_command (command.Disassemble address offset instruction_offset count) s is =
-    left_shown (view_of (view.Code (first_line s.board.machine address offset instruction_offset) count)
-    (parts_of s.board)) s
 left_command (command.Source path) s is = left_shown (view_of (view.Source path) (parts_of s.board)) s
 left_command other s is = absurd cc
 
-left_editing : (c : EditorCommand) (found : Option FileText) (s : SessionState) → mid_search_editing c ≡
-    mid.Look
-    → (asking (asked.Editor c) found s).state ≡ s
-left_editing (editor.Evaluate expression context.Watch format) found s is = refl
-left_editing (editor.Evaluate expression context.Other format) found s is = refl
-left_editing (editor.Variables (variables.Scopes frame)) found s is =
+left_source : (path : Text) (c : SourceCommand) (s : SessionState) → (source_traits c).mid_search ≡ mid.Look
+    → (on_source path c s).state ≡ s
+left_source path (source.BreakpointLocations first last) s is = refl
+left_source path (source.GotoTargets line) s is = refl
+left_source path (source.SetBreakpoints lines) s is = absurd cc
+
+left_breakpoints : (c : BreakpointsCommand) (s : SessionState) → (breakpoints_traits c).mid_search ≡ mid.Look
+    → (on_breakpoints c s).state ≡ s
+left_breakpoints (breakpoints.DataBreakpointInfo query) s is = refl
+left_breakpoints other s is = absurd cc
+
+left_memory : (c : MemoryCommand) (s : SessionState) → (memory_traits c).mid_search ≡ mid.Look
+    → (on_memory c s).state ≡ s
+left_memory (memory.ReadMemory address offset count) s is = refl
+left_memory (memory.Disassemble address offset instruction_offset count operands) s is = refl
+left_memory (memory.WriteMemory address offset bytes) s is = absurd cc
+
+left_variables : (c : VariablesCommand) (s : SessionState) → (variables_traits c).mid_search ≡ mid.Look
+    → (handling c s).state ≡ s
+left_variables (variables.Scopes frame) s is =
     ap (λ (r : Replied). r.state) (handled_shown (variables.Scopes frame) s tt).1
-left_editing (editor.Variables (variables.Variables reference start count format)) found s is =
+left_variables (variables.Variables reference start count format) s is =
     ap (λ (r : Replied). r.state) (handled_shown (variables.Variables reference start count format) s tt).1
-left_editing (editor.Variables (variables.Completions text column)) found s is = refl
-left_editing editor.ExceptionInfo found s is = left_explained (exception_of s.settings.program) s
-left_editing (editor.ReadMemory address offset count) found s is = refl
-left_editing (editor.Disassemble address offset instruction_offset count operands) found s is = refl
-left_editing editor.LoadedSources found s is = refl
-left_editing (editor.GotoTargets path line) found s is = refl
-left_editing (editor.DataBreakpointInfo query) found s is = refl
-left_editing (editor.BreakpointLocations path first last) found s is = refl
-left_editing other found s is = absurd cc
+left_variables (variables.Completions text column) s is = refl
+left_variables other s is = absurd cc
+
+left_editor : (c : EditorCommand) (s : SessionState) → (editor_traits c).mid_search ≡ mid.Look
+    → (on_editor c s).state ≡ s
+left_editor (editor.Evaluate expression context.Watch format) s is = refl
+left_editor (editor.Evaluate expression context.Other format) s is = refl
+left_editor editor.ExceptionInfo s is = left_explained (exception_of s.settings.program) s
+left_editor editor.LoadedSources s is = refl
+left_editor (editor.OnSource path c) s is = left_source path c s is
+left_editor (editor.Breakpoints c) s is = left_breakpoints c s is
+left_editor (editor.Memory c) s is = left_memory c s is
+left_editor (editor.Variables c) s is = left_variables c s is
+left_editor other s is = absurd cc
 
 left_asking : (a : RequestContent) (found : Option FileText) (s : SessionState) → mid_search a ≡ mid.Look
     → (asking a found s).state ≡ s
+left_asking (asked.Load c) found s is = absurd cc
 left_asking (asked.Board c) found s is = left_command c s is
-left_asking (asked.Editor c) found s is = left_editing c found s is
+left_asking (asked.Editor c) found s is = left_editor c s is
 left_asking (asked.Faulty fault) found s is = refl
 
 left_unless : (o : Option Text) (a : RequestContent) (found : Option FileText) (s : SessionState)
@@ -115,35 +139,57 @@ left_unless (Some text) a found s is = refl
 left_unless None a found s is = left_asking a found s is
 
 -- no look ends a question
-command_ends_none : (c : DapCommand) → mid_search_command c ≡ mid.Look
-    → ends_question (asked.Board c) ≡ false
+command_ends_none : (c : BoardCommand) → (board_traits c).mid_search ≡ mid.Look
+    → (board_traits c).ends_question ≡ false
 command_ends_none command.Threads is = refl
 command_ends_none (command.StackTrace start levels) is = refl
-command_ends_none (command.Scopes frame) is = refl
-command_ends_none (command.Variables reference start count) is = refl
-command_ends_none (command.Disassemble address offset instruction_offset count) is = refl
 command_ends_none (command.Source path) is = refl
 command_ends_none other is = absurd cc
 
-editing_ends_none : (c : EditorCommand) → mid_search_editing c ≡ mid.Look
+board_ends_none : (c : BoardCommand) → (board_traits c).ends_question ≡ false
+    → ends_question (asked.Board c) ≡ false
+board_ends_none c is = ap (λ b. b || false) is
+
+source_ends_none : (c : SourceCommand) → (source_traits c).ends_question ≡ false
+source_ends_none (source.SetBreakpoints lines) = refl
+source_ends_none (source.BreakpointLocations first last) = refl
+source_ends_none (source.GotoTargets line) = refl
+
+breakpoints_end_none : (c : BreakpointsCommand) → (breakpoints_traits c).ends_question ≡ false
+breakpoints_end_none (breakpoints.SetFunctionBreakpoints functions) = refl
+breakpoints_end_none (breakpoints.SetExceptionBreakpoints filters) = refl
+breakpoints_end_none (breakpoints.DataBreakpointInfo query) = refl
+breakpoints_end_none (breakpoints.SetDataBreakpoints on_data) = refl
+breakpoints_end_none (breakpoints.SetInstructionBreakpoints instructions) = refl
+
+memory_ends_none : (c : MemoryCommand) → (memory_traits c).ends_question ≡ false
+memory_ends_none (memory.ReadMemory address offset count) = refl
+memory_ends_none (memory.WriteMemory address offset bytes) = refl
+memory_ends_none (memory.Disassemble address offset instruction_offset count operands) = refl
+
+variables_end_none : (c : VariablesCommand) → (variables_traits c).ends_question ≡ false
+variables_end_none (variables.Scopes frame) = refl
+variables_end_none (variables.Variables reference start count format) = refl
+variables_end_none (variables.SetVariable reference name value format) = refl
+variables_end_none (variables.SetExpression expression value format) = refl
+variables_end_none (variables.Completions text column) = refl
+
+editor_ends_none : (c : EditorCommand) → (editor_traits c).mid_search ≡ mid.Look
     → ends_question (asked.Editor c) ≡ false
-editing_ends_none (editor.Evaluate expression context.Watch format) is = refl
-editing_ends_none (editor.Evaluate expression context.Other format) is = refl
-editing_ends_none (editor.Variables (variables.Scopes frame)) is = refl
-editing_ends_none (editor.Variables (variables.Variables reference start count format)) is = refl
-editing_ends_none (editor.Variables (variables.Completions text column)) is = refl
-editing_ends_none editor.ExceptionInfo is = refl
-editing_ends_none (editor.ReadMemory address offset count) is = refl
-editing_ends_none (editor.Disassemble address offset instruction_offset count operands) is = refl
-editing_ends_none editor.LoadedSources is = refl
-editing_ends_none (editor.GotoTargets path line) is = refl
-editing_ends_none (editor.DataBreakpointInfo query) is = refl
-editing_ends_none (editor.BreakpointLocations path first last) is = refl
-editing_ends_none other is = absurd cc
+editor_ends_none (editor.Evaluate expression context.Watch format) is = refl
+editor_ends_none (editor.Evaluate expression context.Other format) is = refl
+editor_ends_none editor.ExceptionInfo is = refl
+editor_ends_none editor.LoadedSources is = refl
+editor_ends_none (editor.OnSource path c) is = ap (λ b. b || false) (source_ends_none c)
+editor_ends_none (editor.Breakpoints c) is = ap (λ b. b || false) (breakpoints_end_none c)
+editor_ends_none (editor.Memory c) is = ap (λ b. b || false) (memory_ends_none c)
+editor_ends_none (editor.Variables c) is = ap (λ b. b || false) (variables_end_none c)
+editor_ends_none other is = absurd cc
 
 look_ends_none : (a : RequestContent) → mid_search a ≡ mid.Look → ends_question a ≡ false
-look_ends_none (asked.Board c) is = command_ends_none c is
-look_ends_none (asked.Editor c) is = editing_ends_none c is
+look_ends_none (asked.Load c) is = absurd cc
+look_ends_none (asked.Board c) is = board_ends_none c (command_ends_none c is)
+look_ends_none (asked.Editor c) is = editor_ends_none c is
 look_ends_none (asked.Faulty fault) is = refl
 
 -- a look leaves the board and the program

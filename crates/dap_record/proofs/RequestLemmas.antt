@@ -11,7 +11,6 @@ use Rattle.i80_exec.specs.declared.registers.Registers.{Registers}
 use Rattle.dap_messages.specs.declared.message.EditorOutcome.{EditorOutcome}
 use Rattle.dap_messages.specs.declared.message.EditorOutcome.TheVariants.{Success, Refused}
 use Rattle.dap_messages.specs.declared.message.Message.{Message}
-use Rattle.dap_requests.specs.declared.request.EditorCommand.TheVariants as editor
 use Rattle.dap_requests.specs.declared.request.RequestContent.{RequestContent}
 use Rattle.dap_requests.specs.declared.request.RequestContent.TheVariants as asked
 use Rattle.lab_core.specs.Board.{Board}
@@ -33,6 +32,9 @@ use Rattle.dap_session.specs.Turns.{Turn}
 use Rattle.dap_session.specs.Requests as session
 use Rattle.dap_prompt.specs.Inputs.{input_of, is_success}
 use Rattle.dap_session.specs.Rewinds.{can_go_back}
+use Rattle.dap_prompt.specs.Effects.{effect_by, effect_done}
+use Rattle.dap_prompt.specs.declared.outcome.Effect.TheVariants as effect
+use Rattle.dap_prompt.specs.declared.outcome.RequestOutcome.{RequestOutcome}
 use Rattle.dap_session.specs.Laws.{SameParts, asks_to_load}
 use Rattle.dap_session.specs.Represents.{SessionFields, RepresentsSession}
 use Rattle.dap_session.proofs.InputLemmas.{made_turn}
@@ -45,8 +47,9 @@ use Rattle.dap_record.specs.Recordings.{begins, input_made, recording_after, for
 use Rattle.dap_record.specs.Recordings.{is_full}
 use Rattle.dap_record.specs.Turns.{forgotten_events, forgotten_messages, count_of}
 use Rattle.dap_record.specs.Fields.{RecordingFields}
-use Rattle.dap_record.specs.Represents.{RepresentsRecording, RepresentsRecordingIf, is_success_told}
+use Rattle.dap_record.specs.Represents.{RepresentsRecording, RepresentsRecordingIf}
 use Rattle.dap_record.specs.Noting.{IsBefore, IsAnswered, IsAfterInput, IsAfterInputIf, NotesTurn, NotesInput}
+use Rattle.dap_record.specs.Noting.{may_begin, input_in}
 
 ok_both : {A E : Type 0} {P Q R : A → Type 0} (r : Result A E) → IfOk r P → IfOk r Q
     → ((x : A) → P x → Q x → R x) → IfOk r R
@@ -72,9 +75,10 @@ none_recorded (Some v) None s represents dead = absurd represents
 
 -- a request that loads is no input
 load_input : (a : RequestContent) (b : Board) → asks_to_load a ≡ true → input_of a b ≡ None
-load_input (asked.Editor (editor.Launch l)) b is = refl
-load_input (asked.Editor (editor.Restart l)) b is = refl
-load_input other b is = absurd (true≢false (sym is))
+load_input (asked.Load c) b is = refl
+load_input (asked.Board c) b is = absurd (true≢false (sym is))
+load_input (asked.Editor c) b is = absurd (true≢false (sym is))
+load_input (asked.Faulty f) b is = absurd (true≢false (sym is))
 
 forgets_none : (i : Option Input) → forgets_by i None ≡ false
 forgets_none None = refl
@@ -108,10 +112,39 @@ notes a found v c noted forgets after forgets_is after_is messages recording =
           subst (λ o. RepresentsRecordingIf noted.recording o t.state) (sym after_is) recording;
     }
 
--- whether the request was carried out, by its messages
-told_success : (c : RequestId) (t : Turn) (messages : List Message)
-    → messages ≡ turn_messages c t.outcome t.events → is_success_told messages ≡ is_success t.outcome
-told_success c t messages is = ap is_success_told is
+-- ---- what the request did
+
+begins_by : (i : Option Input) (could : Bool) → may_begin (effect_by i) could ≡ not could
+begins_by None could = refl
+begins_by (Some i) could = refl
+
+begins_done : (a : RequestContent) (b : Board) (could : Bool)
+    → may_begin (effect_done a b) could ≡ (asks_to_load a || not could)
+begins_done (asked.Load c) b could = refl
+begins_done (asked.Board c) b could = begins_by (input_of (asked.Board c) b) could
+begins_done (asked.Editor c) b could = begins_by (input_of (asked.Editor c) b) could
+begins_done (asked.Faulty f) b could = refl
+
+begins_where : (done : Bool) (a : RequestContent) (b : Board) (could : Bool)
+    → may_begin (if done then effect_done a b else effect.Refused) could
+    ≡ (done && (asks_to_load a || not could))
+begins_where true a b could = begins_done a b could
+begins_where false a b could = refl
+
+input_by : (i : Option Input) → input_in (effect_by i) ≡ i
+input_by None = refl
+input_by (Some i) = refl
+
+input_done : (a : RequestContent) (b : Board) → input_in (effect_done a b) ≡ input_of a b
+input_done (asked.Load c) b = refl
+input_done (asked.Board c) b = input_by (input_of (asked.Board c) b)
+input_done (asked.Editor c) b = input_by (input_of (asked.Editor c) b)
+input_done (asked.Faulty f) b = refl
+
+input_where : (done : Bool) (a : RequestContent) (b : Board)
+    → input_in (if done then effect_done a b else effect.Refused) ≡ (if done then input_of a b else None)
+input_where true a b = input_done a b
+input_where false a b = refl
 
 -- a run may have begun
 forgets_begun : (a : RequestContent) (v : RecordedState) (t : Turn) (rec : Option RecordingFields)
@@ -147,32 +180,30 @@ both_parts true true is = (refl, refl)
 both_parts true false is = absurd (true≢false (sym is))
 both_parts false y is = absurd (true≢false (sym is))
 
--- what is known of the request after it was answered
-pub begins_is : (a : RequestContent) (found : Option FileText) (v : RecordedState) (c : RequestId)
-    (before : Before) (messages : List Message) (session : SessionFields) (done may : Bool)
-    → IsBefore a v before → IsAnswered a found v c messages session → done ≡ is_success_told messages
-    → may ≡ (done && (before.loads || not before.could)) → may ≡ begins a v.session (turn_for a found v)
-begins_is a found v c before messages session done may known answered done_is may_is =
-    let t = turn_for a found v in
-    let success = done_is ∙ told_success c t messages answered.messages_are in
-    may_is ∙ (λ i. success i && (known.loads i || not (known.could i)))
+begins_is : (a : RequestContent) (found : Option FileText) (v : RecordedState) (c : RequestId)
+    (before : Before) (outcome : RequestOutcome) (session : SessionFields)
+    → IsBefore v before → IsAnswered a found v c outcome session
+    → may_begin outcome.effect before.could ≡ begins a v.session (turn_for a found v)
+begins_is a found v c before outcome session known answered =
+    (λ i. may_begin (answered.effect_is i) (known.could i))
+    ∙ begins_where (is_success (turn_for a found v).outcome) a v.session.board (can_go_back v.session)
 
 pub begun_noted : (a : RequestContent) (found : Option FileText) (v : RecordedState) (c : RequestId)
-    (before : Before) (messages : List Message) (session : SessionFields) (done : Bool)
-    (result : Result Noted AllocError)
-    → IsBefore a v before → IsAnswered a found v c messages session → done ≡ is_success_told messages
-    → (done && (before.loads || not before.could)) ≡ true
-    → IfOk result (λ noted. noted.messages ≡ messages)
+    (before : Before) (outcome : RequestOutcome) (session : SessionFields) (result : Result Noted AllocError)
+    → IsBefore v before → IsAnswered a found v c outcome session
+    → may_begin outcome.effect before.could ≡ true
+    → IfOk result (λ noted. noted.messages ≡ outcome.messages)
     → ((s : SessionState) → RepresentsSession session s → IfOk result (λ noted.
     RepresentsRecordingIf noted.recording (kept_while s (Some (new_recording s.board))) s))
     → IfOk result (NotesTurn a found v c)
-begun_noted a found v c before messages session done result known answered done_is may told recording =
+begun_noted a found v c before outcome session result known answered may told recording =
     let t = turn_for a found v in
-    let forgets =
-    forgets_begun a v t before.recording before.loads before.could (sym known.loads) (sym known.could)
-    (both_parts done (before.loads || not before.could) may).1 known.recording in
     let begins_so : begins a v.session t ≡ true =
-    sym (begins_is a found v c before messages session done true known answered done_is (sym may)) in
+    sym (begins_is a found v c before outcome session known answered) ∙ may in
+    let forgets =
+    forgets_begun a v t before.recording (asks_to_load a) (can_go_back v.session) refl refl
+    (both_parts (is_success t.outcome) (asks_to_load a || not (can_go_back v.session)) begins_so).1
+    known.recording in
     let after =
     ap (λ o. kept_while t.state o) (begun_if (begins a v.session t) (Some (new_recording t.state.board))
     (option_and_then (with_input_if (input_made a v.session t)) v.recording) begins_so) in
@@ -213,41 +244,30 @@ not_begun true false true is = inl (refl, refl)
 not_begun true false false is = absurd (true≢false is)
 not_begun false loads could is = inr refl
 
-loads_known : (a : RequestContent) (v : RecordedState) (before : Before) (done : Bool) → IsBefore a v before
-    → ((before.loads ≡ false) × (before.could ≡ true)) ⊎ (done ≡ false)
-    → ((asks_to_load a ≡ false) × (can_go_back v.session ≡ true)) ⊎ (done ≡ false)
-loads_known a v before done known so = elim so [
-  | inl both ↦ inl (sym known.loads ∙ both.0, sym known.could ∙ both.1)
-  | inr other ↦ inr other
-]
-
 pub other_noted : (a : RequestContent) (found : Option FileText) (v : RecordedState) (c : RequestId)
-    (before : Before) (messages : List Message) (session : SessionFields) (done : Bool) (made : Option Input)
+    (before : Before) (outcome : RequestOutcome) (session : SessionFields) (made : Option Input)
     (result : Result Noted AllocError)
-    → IsBefore a v before → IsAnswered a found v c messages session → done ≡ is_success_told messages
-    → (done && (before.loads || not before.could)) ≡ false
-    → made ≡ (if done then before.input else None)
+    → IsBefore v before → IsAnswered a found v c outcome session
+    → may_begin outcome.effect before.could ≡ false → made ≡ input_in outcome.effect
     → ((w : RecordedState) (s : SessionState) → RepresentsRecordingIf before.recording w.recording w.session
     → RepresentsSession session s → IsAfterInputIf made w.session s
-    → IfOk result (NotesInput w s made messages))
+    → IfOk result (NotesInput w s made outcome.messages))
     → IfOk result (NotesTurn a found v c)
-other_noted a found v c before messages session done made result known answered done_is may made_is notes_it =
+other_noted a found v c before outcome session made result known answered may made_is notes_it =
     let t = turn_for a found v in
-    let success = done_is ∙ told_success c t messages answered.messages_are in
+    let done = is_success t.outcome in
     let made_so : made ≡ input_made a v.session t =
-    made_is ∙ (λ i. if success i then known.input i else None) in
-    let input_so : made ≡ (if done then input_of a v.session.board else None) =
-    made_is ∙ (λ i. if done then known.input i else None) in
+    made_is ∙ (ap input_in answered.effect_is ∙ input_where done a v.session.board) in
     let begins_so : begins a v.session t ≡ false =
-    sym (begins_is a found v c before messages session done false known answered done_is (sym may)) in
+    sym (begins_is a found v c before outcome session known answered) ∙ may in
     let after =
     ap (λ o. kept_while t.state o) (other_if (begins a v.session t) (Some (new_recording t.state.board))
     (option_and_then (with_input_if (input_made a v.session t)) v.recording) begins_so)
     ∙ ap (λ i. kept_while t.state (option_and_then (with_input_if i) v.recording)) (sym made_so) in
     let came : IsAfterInputIf made v.session t.state =
-    subst (λ i. IsAfterInputIf i v.session t.state) (sym input_so)
-    (after_made a found v done (sym success)
-    (loads_known a v before done known (not_begun done before.loads before.could may))) in
+    subst (λ i. IsAfterInputIf i v.session t.state) (sym made_so)
+    (after_made a found v done refl
+    (not_begun done (asks_to_load a) (can_go_back v.session) begins_so)) in
     ok_then result (notes_it v t.state known.recording answered.represents came)
     (λ noted n.
     notes a found v c noted (forgets_by made v.recording) _

@@ -1,7 +1,6 @@
 pub mod Fields
 pub mod Recordings
 pub mod Backward
-pub mod MidSearch
 pub mod Turns
 pub mod Slices
 pub mod Represents

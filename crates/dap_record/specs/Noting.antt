@@ -1,5 +1,5 @@
 -- What becomes of a recording by a request that doesn't go back.
-use Rattle.std.specs.Prelude.{◌≡◌, List, ◌++◌, true, Option, option_and_then}
+use Rattle.std.specs.Prelude.{◌≡◌, List, ◌++◌, Bool, true, false, not, Option, Some, None, option_and_then}
 use Rattle.dap_messages.specs.declared.message.Message.{Message}
 use Rattle.dap_requests.specs.declared.request.RequestContent.{RequestContent}
 use Rattle.dap_history.specs.declared.input.Input.{Input}
@@ -10,9 +10,13 @@ use Rattle.dap_run.specs.Messages.{turn_messages}
 use Rattle.dap_session.specs.States.{SessionState}
 use Rattle.dap_session.specs.Represents.{SessionFields, RepresentsSession}
 use Rattle.dap_session.specs.Requests as session
-use Rattle.dap_prompt.specs.Inputs.{input_of, after_input_if}
+use Rattle.dap_prompt.specs.Inputs.{after_input_if}
 use Rattle.dap_session.specs.Rewinds.{can_go_back}
-use Rattle.dap_session.specs.Laws.{SameParts, asks_to_load}
+use Rattle.dap_prompt.specs.declared.outcome.Effect.{Effect}
+use Rattle.dap_prompt.specs.declared.outcome.Effect.TheVariants.{Refused, Loaded, Changed, Answered}
+use Rattle.dap_prompt.specs.declared.outcome.RequestOutcome.{RequestOutcome}
+use Rattle.dap_session.specs.Effects.{effect_of}
+use Rattle.dap_session.specs.Laws.{SameParts}
 use Rattle.dap_record.specs.declared.note.Before.{Before}
 use Rattle.dap_record.specs.declared.note.Noted.{Noted}
 use Rattle.dap_record.specs.Recordings.{RecordedState, kept_while, with_input_if, forgets_by}
@@ -26,18 +30,28 @@ IsAfterInput i before s = can_go_back s ≡ true → SameParts (after_input i be
 abbrev pub IsAfterInputIf : Option Input → SessionState → SessionState → Type 0
 IsAfterInputIf i before s = can_go_back s ≡ true → SameParts (after_input_if i before.board) s.board
 
--- what is known before this request
-pub record IsBefore (a : RequestContent) (v : RecordedState) (before : Before) : Type 0 where
+-- a run begins by a request that did this, if it is there after it
+abbrev pub may_begin : Effect → Bool → Bool
+may_begin Refused could = false
+may_begin Loaded could = true
+may_begin (Changed i) could = not could
+may_begin Answered could = not could
+
+abbrev pub input_in : Effect → Option Input
+input_in (Changed i) = Some i
+input_in other = None
+
+-- what is known before a request
+pub record IsBefore (v : RecordedState) (before : Before) : Type 0 where
   pub could : before.could ≡ can_go_back v.session
-  pub loads : before.loads ≡ asks_to_load a
-  pub input : before.input ≡ input_of a v.session.board
   pub recording : RepresentsRecordingIf before.recording v.recording v.session
 
--- the session has answered this request by these messages
+-- the session has answered this request
 pub record IsAnswered (a : RequestContent) (found : Option FileText) (v : RecordedState) (c : RequestId)
-    (messages : List Message) (after : SessionFields) : Type 0 where
-  pub messages_are : messages
+    (outcome : RequestOutcome) (after : SessionFields) : Type 0 where
+  pub messages_are : outcome.messages
       ≡ turn_messages c (session.turn a found v.session).outcome (session.turn a found v.session).events
+  pub effect_is : outcome.effect ≡ effect_of a v.session (session.turn a found v.session)
   pub represents : RepresentsSession after (session.turn a found v.session).state
 
 abbrev pub turn_noted : RequestContent → Option FileText → RecordedState → RecordedTurn

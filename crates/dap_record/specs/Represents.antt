@@ -1,9 +1,8 @@
 -- Which states a recorded session represents.
-use Rattle.std.specs.Prelude.{◌≡◌, Bool, true, false, List, [], ◌∷◌, Option, Some, None, Result, IfOk}
+use Rattle.std.specs.Prelude.{◌≡◌, Bool, true, List, Option, Some, None, Result, IfOk}
 use Rattle.std.specs.declared.alloc.AllocError.{AllocError}
 use Rattle.dap_session.specs.Slices.{slice_end_in}
 use Rattle.dap_messages.specs.declared.message.Message.{Message}
-use Rattle.dap_messages.specs.declared.message.Message.TheVariants as message
 use Rattle.dap_history.specs.Histories.{IsHistoryOf}
 use Rattle.dap_history.specs.Runs.{board_at, after_rewind}
 use Rattle.dap_search.specs.Searches.{IsSearchOf}
@@ -11,7 +10,6 @@ use Rattle.dap_search.specs.declared.goal.Goal.{Goal}
 use Rattle.dap_run.specs.declared.reply.Reply.{Reply}
 use Rattle.dap_session.specs.States.{SessionState}
 use Rattle.dap_session.specs.Represents.{SessionFields, RepresentsSession}
-use Rattle.dap_prompt.specs.Inputs.{is_success}
 use Rattle.dap_session.specs.Rewinds.{can_go_back, target_for}
 use Rattle.dap_session.specs.Laws.{SameParts}
 use Rattle.dap_record.specs.declared.back.Back.{Back}
@@ -148,12 +146,3 @@ pub record IsAt (v : RecordingFields) (r : Recording) (s : SessionState) : Type 
   pub count : v.count ≡ r.count
   pub told : v.told ≡ r.told
   pub parts : SameParts (board_at r.start r.log r.count) s.board
-
--- whether the first of these messages is the response to a request that was carried out
-abbrev pub is_success_in : Message → Bool
-is_success_in (message.Response r) = is_success r.outcome
-is_success_in (message.Event e) = false
-
-abbrev pub is_success_told : List Message → Bool
-is_success_told [] = false
-is_success_told (m ∷ ms) = is_success_in m

@@ -1,6 +1,6 @@
 -- What a request leads to.
 use Rattle.std.specs.Prelude.{ℕ, List, [], ◌∷◌, ◌++◌, Bool, Option, Some, None, codes, decimal, if◌then◌else◌}
-use Rattle.base_text.specs.Bytes.{Bytes}
+use Rattle.base_text.specs.Bytes.{Bytes, Text}
 use Rattle.dap_answers.specs.declared.answer.Body.TheVariants.{Empty}
 use Rattle.dap_answers.specs.declared.answer.StopReason.TheVariants.{Pause as ByPause}
 use Rattle.dap_messages.specs.declared.message.EditorBody.TheVariants as body
@@ -21,9 +21,9 @@ use Rattle.dap_session.specs.Requests as session
 use Rattle.dap_record.specs.declared.back.Back.{Back}
 use Rattle.dap_record.specs.Recordings.{Recording, RecordedState, recording_after, input_made, forgets_by}
 use Rattle.dap_record.specs.Backward.{RecordedReply, back_of, going_back}
-use Rattle.dap_record.specs.MidSearch.{mid_search, mid_search_text}
-use Rattle.dap_record.specs.declared.mid_search.MidSearch.{MidSearch}
-use Rattle.dap_record.specs.declared.mid_search.MidSearch.TheVariants as mid
+use Rattle.dap_requests.specs.Traits.{mid_search}
+use Rattle.dap_requests.specs.declared.traits.MidSearch.{MidSearch}
+use Rattle.dap_requests.specs.declared.traits.MidSearch.TheVariants as mid
 
 pub record RecordedTurn : Type 0 where
   pub outcome : EditorOutcome
@@ -86,6 +86,9 @@ pausing v = record {
   recording = v.recording;
   search = None;
 }
+
+abbrev pub mid_search_text : Text
+mid_search_text = codes "the run is going back: pause it first"
 
 -- the search goes on
 abbrev pub refusing_now : RecordedState → RecordedReply

@@ -1,10 +1,9 @@
 //! Inputs that come to a recorded run.
 ghost use Rattle.std.specs.Prelude.{◌≡◌, true, IfOk};
-ghost use Rattle.dap_session.specs.Laws as laws;
 ghost use Rattle.dap_session.specs.States.{SessionState};
 ghost use Rattle.dap_record.specs.Recordings.{Recording, with_input_now};
 ghost use Rattle.dap_record.specs.Turns as turns;
-ghost use Rattle.dap_record.specs.Represents.{RepresentsRecording, RepresentsRecordingIf, is_success_told};
+ghost use Rattle.dap_record.specs.Represents.{RepresentsRecording, RepresentsRecordingIf};
 ghost use Rattle.dap_record.specs.Noting.{IsAfterInput};
 ghost use Rattle.dap_session.specs.Rewinds.{can_go_back};
 
@@ -12,29 +11,7 @@ use crate::recording::RunRecording;
 use base_text::sequence::Bytes;
 use dap_history::fault::LogFault;
 use dap_history::input::Input;
-use dap_messages::message::{EditorOutcome, Message};
-use dap_requests::request::{EditorCommand, RequestContent};
 use std::alloc::{AllocError, Global};
-
-/// Whether a request loads a program.
-pub(crate) fn asks_to_load(asked: &RequestContent) -> bool
-    ensures { result ≡ laws.asks_to_load asked.now }
-{
-    matches!(
-        asked,
-        RequestContent::Editor(EditorCommand::Launch(_) | EditorCommand::Restart(_))
-    )
-}
-
-/// Whether the first of these messages is the response to a request that was carried out.
-pub(crate) fn is_success(messages: &[Message]) -> bool
-    ensures { result ≡ is_success_told messages.now }
-{
-    match messages.first() {
-        Some(Message::Response(response)) => matches!(response.outcome, EditorOutcome::Success(_)),
-        _ => false,
-    }
-}
 
 /// The line that tells what is forgotten.
 pub(crate) fn forgotten_line(alloc: Global, count: u64) -> Result<Bytes, AllocError>

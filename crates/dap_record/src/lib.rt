@@ -7,7 +7,6 @@
 
 pub mod back;
 mod input;
-mod mid_search;
 mod note;
 pub mod recorded;
 pub mod recording;

@@ -1,6 +1,5 @@
 //! The recording after a request that doesn't go back.
-ghost use Rattle.std.specs.Prelude.{◌≡◌, ◌++◌, Option, Some, None, true, nat_lt, if◌then◌else◌, not, ◌&&◌};
-ghost use Rattle.std.specs.Prelude.{◌||◌, IfOk, OnOk};
+ghost use Rattle.std.specs.Prelude.{◌≡◌, ◌++◌, Option, Some, true, nat_lt, IfOk, OnOk};
 ghost use Rattle.dap_requests.specs.declared.request.RequestContent.{RequestContent};
 ghost use Rattle.dap_launch.specs.declared.file.FileText.{FileText};
 ghost use Rattle.dap_run.specs.declared.messages.RequestId.{RequestId};
@@ -13,23 +12,21 @@ ghost use Rattle.dap_record.specs.Recordings.{with_input_now};
 ghost use Rattle.dap_record.specs.Turns.{forgotten_messages};
 ghost use Rattle.dap_record.specs.Represents.{RepresentsRecording, RepresentsRecordingIf};
 ghost use Rattle.dap_record.specs.Noting.{IsBefore, IsAnswered, NotesTurn, IsAfterInput};
-ghost use Rattle.dap_record.specs.Noting.{IsAfterInputIf, NotesInput};
+ghost use Rattle.dap_record.specs.Noting.{IsAfterInputIf, NotesInput, may_begin, input_in};
 
-use crate::input::{forgotten_line, is_success, record};
+use crate::input::{forgotten_line, record};
 use crate::recording::RunRecording;
 use base_text::sequence::Sequence;
 use dap_history::input::Input;
 use dap_messages::message::{EditorEvent, Message, OutputCategory};
+use dap_prompt::outcome::{Effect, RequestOutcome};
 use dap_session::session::Session;
 use std::alloc::{AllocError, Global};
 
-/// What is known before a request: whether the run could go back, whether the request loads a program, the
-/// input that it is, and the recording.
+/// What is known before a request: whether the run could go back, and the recording.
 #[derive(Drop)]
 pub(crate) struct Before {
     pub could: bool,
-    pub loads: bool,
-    pub input: Option<Input>,
     pub recording: Option<RunRecording>,
 }
 
@@ -137,22 +134,25 @@ fn note(
     })
 }
 
-// Whether a run may have begun by a request.
-fn may_begin(done: bool, loads: bool, could: bool) -> bool
-    ensures { result ≡ (done && (loads || not could)) }
+// Whether a run may have begun by a request that did this.
+fn may_begin(effect: &Effect, could: bool) -> bool
+    ensures { result ≡ may_begin effect.now could }
 {
-    done && (loads || !could)
+    match effect {
+        Effect::Refused => false,
+        Effect::Loaded => true,
+        Effect::Changed(_) | Effect::Answered => !could,
+    }
 }
 
-// An input that was made.
-fn made_if(done: bool, input: Option<Input>) -> Option<Input>
-    ensures { result ≡ (if done then input else None) }
+// The input that came.
+fn input_in(effect: Effect) -> Option<Input>
+    ensures { result ≡ input_in effect }
 {
-    if done {
-        return input;
+    match effect {
+        Effect::Changed(input) => Some(input),
+        Effect::Refused | Effect::Loaded | Effect::Answered => None,
     }
-    drop(input);
-    None
 }
 
 // The recording of a run that didn't begin now.
@@ -186,29 +186,24 @@ fn settle_input(
     }
 }
 
-/// What is told of a request that was answered by these messages, and the recording after it.
+/// What is told of a request that led to this outcome, and the recording after it.
 pub(crate) fn settle(
     alloc: Global,
     session: &Session,
     before: Before,
-    messages: Sequence<Message>,
+    outcome: RequestOutcome,
 ) -> Result<Noted, AllocError>
     ensures { (a : RequestContent) (found : Option FileText) (v : RecordedState) (c : RequestId)
-        → IsBefore a v before → IsAnswered a found v c messages session.now
+        → IsBefore v before → IsAnswered a found v c outcome session.now
         → IfOk result (NotesTurn a found v c) }
 {
-    let Before {
-        could,
-        loads,
-        input,
-        recording,
-    } = before;
-    let done = is_success(messages.as_slice());
-    if may_begin(done, loads, could) {
-        drop(input);
+    let Before { could, recording } = before;
+    let RequestOutcome { messages, effect } = outcome;
+    if may_begin(&effect, could) {
+        drop(effect);
         drop(recording);
         return begin(alloc, session, messages);
     }
-    let made = made_if(done, input);
-    settle_input(alloc, session, recording, made, messages)
+    let input = input_in(effect);
+    settle_input(alloc, session, recording, input, messages)
 }

@@ -1,10 +1,10 @@
 //! A session whose run is recorded.
-ghost use Rattle.std.specs.Prelude.{◌≡◌, None, IfOk, OnOk, option_map};
+ghost use Rattle.std.specs.Prelude.{◌≡◌, None, IfOk, option_map};
 ghost use Rattle.dap_session.specs.Requests as requests;
 ghost use Rattle.dap_session.specs.Slices.{caller_of};
 ghost use Rattle.dap_record.specs.Recordings.{RecordedState, recorded_before_requests};
 ghost use Rattle.dap_record.specs.Backward.{going_back, going_back_from};
-ghost use Rattle.dap_record.specs.MidSearch.{mid_search};
+ghost use Rattle.dap_requests.specs.Traits.{mid_search};
 ghost use Rattle.dap_record.specs.Turns.{turn, turn_of, recorded_turn, back_in, turn_by, turn_searching};
 ghost use Rattle.dap_record.specs.Turns.{looking, pausing, refusing_now};
 ghost use Rattle.dap_record.specs.Slices.{request_told, run_told, goes_on, told_in, meant_by};
@@ -13,8 +13,6 @@ ghost use Rattle.dap_record.specs.Represents.{RepliesFrom, IsRecorded, Represent
 ghost use Rattle.dap_record.specs.Noting.{IsBefore};
 
 use crate::back::{Back, back_of};
-use crate::input::asks_to_load;
-use crate::mid_search::{MidSearch, mid_search};
 use crate::note::{Before, Noted, settle};
 use crate::recording::RunRecording;
 use crate::search::{GoalSearch, SearchPart, search_on};
@@ -26,6 +24,7 @@ use dap_launch::file::FileText;
 use dap_messages::message::{EditorStop, Message};
 use dap_prompt::inputs::as_meant;
 use dap_requests::request::EditorRequest;
+use dap_requests::traits::{MidSearch, traits_of};
 use dap_run::messages::{FollowUp, Messages, RequestId};
 use dap_run::refusals::board_refusal;
 use dap_run::reply::{Reply, accept, refuse};
@@ -167,7 +166,7 @@ impl RecordedSession {
         ensures { TellsAs (λ v. told_in (caller_of request)
             (turn_searching (mid_search request.asked) request.asked file v)) self.old result self.new }
     {
-        match mid_search(&request.asked) {
+        match traits_of(&request.asked).mid_search {
             MidSearch::Look => self.take_look(alloc, request, file),
             MidSearch::Pause => {
                 drop(file);
@@ -195,7 +194,7 @@ impl RecordedSession {
         ensures { TellsAs (λ v. told_in (caller_of request)
             (looking v (requests.turn request.asked file v.session))) self.old result self.new }
     {
-        self.session.take(alloc, request, file)
+        self.session.tell(alloc, request, file)
     }
 
     // Ends the search; the run stays where it was.
@@ -309,24 +308,18 @@ impl RecordedSession {
     }
 
     // What is known before a request; the recording is taken out for it.
-    fn before(&mut self, alloc: Global, request: &EditorRequest) -> Result<Before, AllocError>
+    fn before(&mut self) -> Before
         requires { self.old.search ≡ None }
-        ensures ok { (v : RecordedState) → RepresentsRecorded self.old v
-            → IfOk result (IsBefore request.now.asked v) }
+        ensures before { (v : RecordedState) → RepresentsRecorded self.old v → IsBefore v result }
         ensures session { self.new.session ≡ self.old.session }
         ensures search { self.new.search ≡ self.old.search }
-        ensures taken { OnOk result (self.new.recording ≡ None) }
+        ensures taken { self.new.recording ≡ None }
         ensures some { RepresentsSome self.old }
     {
-        let could = self.session.can_go_back();
-        let loads = asks_to_load(&request.asked);
-        let input = self.session.input_of(alloc, &request.asked)?;
-        Ok(Before {
-            could,
-            loads,
-            input,
+        Before {
+            could: self.session.can_go_back(),
             recording: self.recording.take(),
-        })
+        }
     }
 
     // Answers a request that doesn't go back.
@@ -341,9 +334,9 @@ impl RecordedSession {
             (recorded_turn request.asked v (requests.turn request.asked file v.session)))
             self.old result self.new }
     {
-        let before = self.before(alloc, &request)?;
-        let messages = self.session.take(alloc, request, file)?;
-        let noted = settle(alloc, &self.session, before, messages)?;
+        let before = self.before();
+        let outcome = self.session.take(alloc, request, file)?;
+        let noted = settle(alloc, &self.session, before, outcome)?;
         let Noted {
             messages,
             recording,

@@ -1,2 +1,4 @@
 pub mod Offsets
 pub mod Filters
+pub mod Board
+pub mod Traits

@@ -5,8 +5,7 @@ use crate::offset::SignedOffset;
 use base_text::sequence::{Bytes, Sequence};
 use base_text::text::Text;
 use dap_messages::message::{BreakpointOptions, Numbering, OperandStyle, ValueFormat};
-use dap_talk::command::DapCommand;
-use lab_shown::step::Granularity;
+use lab_shown::step::{Granularity, StepKind};
 
 /// Where the editor shows the value of an expression (Debug Adapter Protocol, `evaluate`).
 #[derive(Clone, Copy)]
@@ -148,43 +147,68 @@ pub enum VariablesCommand {
     },
 }
 
-/// A command that only editors have, or that has more arguments for them than for the kernel.
+/// A request that loads a program, for which its file is read.
 #[derive(Drop)]
-pub enum EditorCommand {
-    /// With how the editor counts lines and columns from the response on.
-    Initialize {
-        supported: SupportedEvents,
-        numbering: Numbering,
-    },
+pub enum LoadCommand {
     Launch(Launch),
     /// With the launch as it is configured now, if that has changed.
     Restart(Option<Launch>),
-    Terminate,
-    /// The breakpoints of a source, at most 256, in the order of the request.
-    SetBreakpoints {
-        path: Text,
-        lines: Sequence<LineBreakpoint>,
+}
+
+/// A command of the kernel that editors send too, with the same arguments (dap_talk's `DapCommand`).
+#[derive(Drop)]
+pub enum BoardCommand {
+    Attach,
+    Disconnect,
+    ConfigurationDone,
+    Threads,
+    StackTrace {
+        start_frame: u32,
+        levels: u32,
     },
-    /// The breakpoints at labels, at most 256, in the order of the request.
+    Continue,
+    Step {
+        kind: StepKind,
+        granularity: Granularity,
+    },
+    Pause,
+    Source(Text),
+    DumpCell(Text),
+    DebugInfo,
+    InspectVariables,
+    BoardSwitches(u8),
+    BoardPress(u8),
+    BoardType(Text),
+    BoardReset,
+    BoardAliases(bool),
+}
+
+/// What an editor asks of a source.
+#[derive(Drop)]
+pub enum SourceCommand {
+    /// Its breakpoints, at most 256, in the order of the request.
+    SetBreakpoints(Sequence<LineBreakpoint>),
+    /// Where it can have breakpoints, from the first line to the last.
+    BreakpointLocations { first: u32, last: u32 },
+    GotoTargets { line: u32 },
+}
+
+/// Breakpoints that aren't on the lines of a source.
+#[derive(Drop)]
+pub enum BreakpointsCommand {
+    /// Those at labels, at most 256, in the order of the request.
     SetFunctionBreakpoints(Sequence<FunctionBreakpoint>),
     SetExceptionBreakpoints(ExceptionFilters),
     DataBreakpointInfo(DataQuery),
-    /// The breakpoints where places are changed, at most 256, in the order of the request.
+    /// Those where places are changed, at most 256, in the order of the request.
     SetDataBreakpoints(Sequence<DataBreakpoint>),
-    /// The breakpoints at instructions, at most 256, in the order of the request.
+    /// Those at instructions, at most 256, in the order of the request.
     SetInstructionBreakpoints(Sequence<InstructionBreakpoint>),
-    /// Where a source can have breakpoints, from the first line to the last.
-    BreakpointLocations {
-        path: Text,
-        first: u32,
-        last: u32,
-    },
-    ExceptionInfo,
-    Evaluate {
-        expression: Text,
-        context: EvaluateContext,
-        format: ValueFormat,
-    },
+}
+
+/// Memory, and the code in it.
+#[derive(Drop)]
+pub enum MemoryCommand {
     /// At most `count` bytes, from `offset` bytes after or before an address.
     ReadMemory {
         address: u16,
@@ -206,18 +230,38 @@ pub enum EditorCommand {
         instruction_count: u16,
         operands: OperandStyle,
     },
+}
+
+/// A command that only editors have, or that has more arguments for them than for the kernel.
+#[derive(Drop)]
+pub enum EditorCommand {
+    /// With how the editor counts lines and columns from the response on.
+    Initialize {
+        supported: SupportedEvents,
+        numbering: Numbering,
+    },
+    Terminate,
+    ExceptionInfo,
+    Evaluate {
+        expression: Text,
+        context: EvaluateContext,
+        format: ValueFormat,
+    },
     LoadedSources,
     /// Back by one place.
     StepBack(Granularity),
     ReverseContinue,
-    GotoTargets {
-        path: Text,
-        line: u32,
-    },
     /// To the address that is the number of a target.
     Goto {
         target: u16,
     },
+    /// A command about the source with this path.
+    OnSource {
+        path: Text,
+        command: SourceCommand,
+    },
+    Breakpoints(BreakpointsCommand),
+    Memory(MemoryCommand),
     Variables(VariablesCommand),
 }
 
@@ -236,8 +280,8 @@ pub enum RequestFault {
 /// What a request asks for.
 #[derive(Drop)]
 pub enum RequestContent {
-    /// A command that the kernel has too.
-    Board(DapCommand),
+    Load(LoadCommand),
+    Board(BoardCommand),
     Editor(EditorCommand),
     Faulty(RequestFault),
 }

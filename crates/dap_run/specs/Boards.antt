@@ -1,4 +1,4 @@
--- The board after an event. A refused event leaves it as it was.
+-- The board after an event, which a refused event leaves as it was, and after a command.
 use Rattle.std.specs.Prelude.{ℕ, Bool, Ok, Err, if◌then◌else◌}
 use Rattle.lab_core.specs.declared.event.Event.{Event}
 use Rattle.lab_core.specs.declared.event.Event.TheVariants as event
@@ -6,6 +6,9 @@ use Rattle.lab_core.specs.Board.{Board}
 use Rattle.lab_core.specs.Changes.{after_registers}
 use Rattle.lab_core.specs.Events.{EventResult, result_of}
 use Rattle.lab_core.specs.Labs.{LabState, RepresentsBoard}
+use Rattle.dap_board.specs.Commands.{Performed, command_result}
+use Rattle.dap_requests.specs.declared.request.BoardCommand.{BoardCommand}
+use Rattle.dap_requests.specs.Board.{kernel_command}
 
 abbrev pub board_after : Board → EventResult → Board
 board_after b (Ok (answer, b')) = b'
@@ -13,6 +16,10 @@ board_after b (Err fault) = b
 
 abbrev pub after : Event → Board → Board
 after e b = board_after b (result_of e b)
+
+-- what a command makes of a board: the body of its response and the board after it, or why it is refused
+abbrev pub board_result : BoardCommand → Board → Performed
+board_result c b = command_result (kernel_command c) b
 
 -- the events that allocate nothing
 abbrev pub IsSure : Event → Type 0

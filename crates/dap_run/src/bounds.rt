@@ -1,12 +1,12 @@
-//! Bounds that each request keeps that was read from JSON, and which requests may come first.
-ghost use Rattle.std.specs.Prelude.{◌≡◌, true};
-ghost use Rattle.dap_board.specs.Commands.{IsPerformable};
+//! Bounds that each request keeps that was read from JSON.
+ghost use Rattle.std.specs.Prelude.{◌≡◌};
 ghost use Rattle.dap_run.specs.Bounds as bounds;
-ghost use Rattle.dap_run.specs.Bounds.{opens, is_bounded};
+ghost use Rattle.dap_run.specs.Bounds.{is_bounded};
 
 use dap_requests::offset::SignedOffset;
-use dap_requests::request::{EditorCommand, RequestContent};
-use dap_talk::command::DapCommand;
+use dap_requests::request::{
+    BreakpointsCommand, EditorCommand, MemoryCommand, RequestContent, SourceCommand,
+};
 
 /// The most breakpoints of a request.
 const MOST_POINTS: usize = 256;
@@ -19,18 +19,6 @@ const MOST_FORWARD: u32 = 65_535;
 
 /// The most instructions that a disassembly may begin before an address.
 const MOST_BACK: u32 = 65_536;
-
-/// Whether a request may come before `initialize`.
-pub fn opens(asked: &RequestContent) -> bool
-    ensures { result ≡ opens asked.now }
-{
-    matches!(
-        asked,
-        RequestContent::Board(DapCommand::Initialize | DapCommand::Disconnect)
-            | RequestContent::Editor(EditorCommand::Initialize { .. })
-            | RequestContent::Faulty(_)
-    )
-}
 
 fn is_few(count: u16) -> bool
     ensures { result ≡ bounds.is_few count }
@@ -47,17 +35,48 @@ fn is_near(shift: SignedOffset) -> bool
     }
 }
 
-/// Whether a command that the kernel has too keeps the bounds of each that was read.
-pub fn is_command_bounded(command: &DapCommand) -> bool
-    ensures bounded { result ≡ bounds.is_command_bounded command.now }
-    ensures fits { result ≡ true → IsPerformable command.now }
+fn is_source_bounded(command: &SourceCommand) -> bool
+    ensures { result ≡ bounds.is_source_bounded command.now }
 {
     match command {
-        DapCommand::SetBreakpoints { lines, .. } => lines.len() <= MOST_POINTS,
-        DapCommand::Disassemble {
+        SourceCommand::SetBreakpoints(lines) => lines.len() <= MOST_POINTS,
+        _ => true,
+    }
+}
+
+fn are_breakpoints_bounded(command: &BreakpointsCommand) -> bool
+    ensures { result ≡ bounds.are_breakpoints_bounded command.now }
+{
+    match command {
+        BreakpointsCommand::SetFunctionBreakpoints(functions) => functions.len() <= MOST_POINTS,
+        BreakpointsCommand::SetDataBreakpoints(on_data) => on_data.len() <= MOST_POINTS,
+        BreakpointsCommand::SetInstructionBreakpoints(instructions) => {
+            instructions.len() <= MOST_POINTS
+        }
+        _ => true,
+    }
+}
+
+fn is_memory_bounded(command: &MemoryCommand) -> bool
+    ensures { result ≡ bounds.is_memory_bounded command.now }
+{
+    match command {
+        MemoryCommand::Disassemble {
+            instruction_offset,
             instruction_count,
             ..
-        } => is_few(*instruction_count),
+        } => is_near(*instruction_offset) && is_few(*instruction_count),
+        _ => true,
+    }
+}
+
+fn is_command_bounded(command: &EditorCommand) -> bool
+    ensures { result ≡ bounds.is_command_bounded command.now }
+{
+    match command {
+        EditorCommand::OnSource { command, .. } => is_source_bounded(command),
+        EditorCommand::Breakpoints(command) => are_breakpoints_bounded(command),
+        EditorCommand::Memory(command) => is_memory_bounded(command),
         _ => true,
     }
 }
@@ -67,23 +86,7 @@ pub fn is_bounded(asked: &RequestContent) -> bool
     ensures { result ≡ is_bounded asked.now }
 {
     match asked {
-        RequestContent::Board(command) => is_command_bounded(command),
-        RequestContent::Editor(EditorCommand::SetBreakpoints { lines, .. }) => lines.len()
-            <= MOST_POINTS,
-        RequestContent::Editor(EditorCommand::SetFunctionBreakpoints(functions)) => functions.len()
-            <= MOST_POINTS,
-        RequestContent::Editor(EditorCommand::SetDataBreakpoints(breakpoints)) => breakpoints.len()
-            <= MOST_POINTS,
-        RequestContent::Editor(EditorCommand::SetInstructionBreakpoints(breakpoints)) => {
-            breakpoints.len() <= MOST_POINTS
-        }
-        RequestContent::Editor(
-            EditorCommand::Disassemble {
-                instruction_offset,
-                instruction_count,
-                ..
-            },
-        ) => is_near(*instruction_offset) && is_few(*instruction_count),
+        RequestContent::Editor(command) => is_command_bounded(command),
         _ => true,
     }
 }

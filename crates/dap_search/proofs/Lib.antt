@@ -1,4 +1,5 @@
 pub mod PointLemmas
-pub mod SeekLemmas
+pub mod FindLemmas
 pub mod RecountLemmas
+pub mod ScanLemmas
 pub mod SearchLemmas

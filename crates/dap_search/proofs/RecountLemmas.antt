@@ -1,36 +1,31 @@
 -- Hits of steps that a run made before, counted again.
-use Rattle.std.proofs.Common.{◌≡◌, ◌∙◌, ◌≤◌, ◌<◌, ◌+◌, ◌-◌, ℕ, zero, suc, List, true, false, Option, Some}
-use Rattle.std.proofs.Common.{None, length, nat_lt, if◌then◌else◌, refl, sym, ap, subst, arith}
+use Rattle.std.proofs.Common.{◌≡◌, ◌∙◌, ◌≤◌, ◌<◌, ◌+◌, ◌-◌, ℕ, zero, suc, List, map, true, false, Option}
+use Rattle.std.proofs.Common.{Some, length, nat_lt, if◌then◌else◌, refl, sym, ap, subst, arith}
 use Rattle.std.proofs.lemmas.Bool.Decides.{nat_tests}
-use Rattle.std.specs.Option.{IfSome}
-use Rattle.lab_core.specs.declared.answer.SliceOutcome.{SliceOutcome}
 use Rattle.lab_core.specs.Board.{Board}
-use Rattle.lab_core.specs.Slices.{after_steps, left_by}
-use Rattle.lab_core.specs.Labs.{LabState, RepresentsBoard}
-use Rattle.lab_core.specs.Marks.{MarksState, first_mark, marked_at, marks_after}
-use Rattle.lab_core.specs.Moments.{MomentState, IsMomentOf, put_back, after_hold}
+use Rattle.lab_core.specs.Slices.{after_steps}
+use Rattle.lab_core.specs.Labs.{LabState}
+use Rattle.lab_core.specs.Marks.{MarksState, first_mark, marked_at, marks_after, watch_of}
+use Rattle.lab_core.specs.Moments.{put_back}
 use Rattle.lab_core.proofs.MarkLemmas.{first-before}
 use Rattle.dap_slice.specs.declared.conditions.ConditionalBreakpoint.{ConditionalBreakpoint}
-use Rattle.dap_slice.specs.Conditions.{IsMarked}
+use Rattle.dap_slice.specs.Conditions.{IsMarked, watched_places}
 use Rattle.dap_slice.specs.Changes.{IsAfterStep}
 use Rattle.dap_slice.specs.Counts.{after_hits, points_after, after_each_step, without_hits}
 use Rattle.dap_slice.specs.Tallies.{hits_in, IsTallyOf, without_tally, is_any_full}
 use Rattle.dap_slice.proofs.ChangeLemmas.{marked_there, marked_still, after_step}
-use Rattle.dap_slice.proofs.CountLemmas.{hits_alike, hits_same, left_same, after_left, marked_same}
+use Rattle.dap_slice.proofs.CountLemmas.{hits_alike, hits_same, marked_same}
 use Rattle.dap_slice.proofs.LogLemmas.{counted_by-steps}
 use Rattle.dap_slice.proofs.TallyLemmas.{Counts, same_others, without_twice, without_step, none_taken}
 use Rattle.dap_slice.proofs.TallyLemmas.{full_before, taken_step}
 use Rattle.dap_history.specs.declared.input.Recorded.{Recorded}
 use Rattle.dap_history.specs.Logs.{Ascends, later_than}
-use Rattle.dap_history.specs.Runs.{board_at, after_rewind, detached_run, RunsDetached}
-use Rattle.dap_history.specs.Histories.{HasRun}
-use Rattle.dap_search.specs.declared.hit_scan.HitScan.{HitScan}
+use Rattle.dap_history.specs.Runs.{board_at, detached_run}
 use Rattle.dap_search.specs.Recounts.{after_step_from, after_hits_from, hits_between}
-use Rattle.dap_search.specs.Recounts.{without_hits_between, HasCountedFrom}
-use Rattle.dap_search.specs.Recounts.{RecountState, IsRecountOf, IsHitScanOf, IsRecounting}
+use Rattle.dap_search.specs.Recounts.{without_hits_between}
+use Rattle.dap_search.specs.Scans.{Advances, TalliesStep}
 use Rattle.dap_history.proofs.RunLemmas.{steps_as}
-use Rattle.dap_history.proofs.HistoryLemmas.{same_moment}
-use Rattle.dap_search.proofs.SeekLemmas.{board_between}
+use Rattle.dap_search.proofs.FindLemmas.{board_between}
 
 abbrev Points : Type 0
 Points = List ConditionalBreakpoint
@@ -77,32 +72,44 @@ last_step points k b some =
     let is : nat_lt 0 k ≡ true = grind (arith, nat_tests, some) in
     sym (ap (λ one. if one then after_hits points (after_steps (k - 1) b) (after_steps k b) else points) is)
 
+-- the marks are the same on another board with this machine
+after_step_as : (points : Points) (was b b' : Board) (marks : MarksState) → b.machine ≡ b'.machine
+    → IsAfterStep points was b marks → IsAfterStep points was b' marks
+after_step_as points was b b' marks same after = record {
+  watches =
+      after.watches
+      ∙ ap (λ m. map (λ place. watch_of was.machine m (record { place = place; before = 0; after = 0 }))
+      (watched_places points)) same;
+  stepped_from = after.stepped_from;
+}
+
 pub counted_on : (points counts : Points) (marks marks' : MarksState) (hits hits' : Counts) (n k : ℕ)
-    (resumed : Option ℕ) (was now : Board) (ending : SliceOutcome) (lab : LabState) → IsMarked points marks
-    → IsTallyOf points counts hits → 1 ≤ k → k ≤ first_mark marks n (detached_run resumed was now)
-    → marks' ≡ marks_after k (detached_run resumed was now) marks
-    → RepresentsBoard lab (left_by ending (after_steps k (detached_run resumed was now)))
-    → ((before b : Board) (counts : Points) → RepresentsBoard lab b → IsAfterStep points before b marks'
-    → IsTallyOf points counts hits → IsTallyOf points (after_hits counts before b) hits')
+    (resumed : Option ℕ) (was now : Board) (lab : LabState) → IsMarked points marks
+    → IsTallyOf points counts hits → 1 ≤ k → Advances marks n resumed was now k lab marks'
+    → TalliesStep points marks' lab hits hits'
     → IsTallyOf points (after_each_step counts k (put_back was now)) hits' × IsMarked points marks'
-counted_on points counts marks marks' hits hits' n k resumed was now ending lab marked tally some within is
-    represents count =
+counted_on points counts marks marks' hits hits' n k resumed was now lab marked tally some on count =
     let b = detached_run resumed was now in
     let before = after_steps (k - 1) b in
     let end = after_steps k b in
-    let stepped : IsAfterStep points before end marks' =
-    subst (λ m. IsAfterStep points before end m) (sym is) (after_step points marks k b marked) in
-    let made =
-    count before (left_by ending end) counts represents (after_left ending points before end marks' stepped)
-    tally in
+    let here = detached_run on.runs.0 (after_steps k was) now in
+    let machine = machine_of k resumed was now in
+    let stepped : IsAfterStep points before here marks' =
+    subst (λ m. IsAfterStep points before here m) (sym on.marks_are)
+    (after_step_as points before end here (marks_after k b marks) machine
+    (after_step points marks k b marked)) in
+    let made = count before here counts on.runs.1 stepped tally in
     let same = same_others points counts tally.others in
-    let hit : after_hits counts before (left_by ending end) ≡ after_each_step counts k (put_back was now) =
-    sym (hits_same counts before end (left_by ending end) (left_same ending end))
+    let hit : after_hits counts before here ≡ after_each_step counts k (put_back was now) =
+    sym (hits_same counts before end here (record {
+      machine = machine;
+      symbols = symbols_of k resumed was now;
+    }))
     ∙ last_step counts k b some
-    ∙ last_alone counts marks n k b (marked_same points counts marks (sym same) marked) within
+    ∙ last_alone counts marks n k b (marked_same points counts marks (sym same) marked) on.within
     ∙ each_alike counts k resumed (Some (length was.trace)) was now in (
       subst (λ ps. IsTallyOf points ps hits') hit made,
-      subst (λ m. IsMarked points m) (sym is) (marked_still points marks k b marked),
+      subst (λ m. IsMarked points m) (sym on.marks_are) (marked_still points marks k b marked),
     )
 
 -- ---- the hits of a run
@@ -245,110 +252,3 @@ taken_back points start now log m n room =
     ap (λ ps. without_tally (hits_in (after_hits_from ps start log now m k)) later)
     (without_from points start now log m k)
     ∙ taken-back points start now log m k room
-
--- ---- a recount
-
--- it has no hits yet
-pub none_counted : (points : Points) (start now : Board) (log : List Recorded) (m : ℕ) (s : HitScan)
-    → s.at ≡ m → IsTallyOf points (without_hits points) s.tally → IsMarked points s.marks
-    → HasCountedFrom start log now points m s
-none_counted points start now log m s at tally marks = record {
-  after = omega (arith, at);
-  counted = record {
-    tally = rw at (subst (λ ps. IsTallyOf points ps s.tally)
-        (sym (none_between points start now log m)) tally);
-    marks = marks;
-  };
-}
-
--- a run is held where it is
-pub held_there : (was now : Board) → HasRun was now → after_hold now ≡ after_rewind was now
-held_there was now run = rw (← run.machine, ← run.past, ← run.trace) refl
-
--- the run is at the scan's count
-pub entered : (start now : Board) (log : List Recorded) (points : Points) (m n : ℕ) (s : RecountState)
-    (lab : LabState) → IsRecountOf start log now points m n s
-    → RunsDetached (board_at start log s.scan.at) now lab
-    → IsRecounting start log now points m n (record s { here = None }) lab
-entered start now log points m n s lab is runs = record {
-  recount = record {
-    scan = is.scan;
-    within = is.within;
-    from_is = is.from_is;
-    to_is = is.to_is;
-    here = tt;
-    home = is.home;
-  };
-  runs = runs;
-  entered = refl;
-}
-
--- at the moment that was kept
-pub here_of : (s : RecountState) (here : MomentState) (b : Board) → IfSome s.here (λ m. IsMomentOf m b)
-    → s.here ≡ Some here → IsMomentOf here b
-here_of s here b kept is = rw is at kept
-
--- the scan goes on
-pub scanned : (start now : Board) (log : List Recorded) (points : Points) (m n : ℕ) (s : RecountState)
-    (scan : HitScan) (old new : LabState) → IsRecounting start log now points m n s old
-    → IsHitScanOf start log now points m scan new → scan.at ≤ n
-    → IsRecounting start log now points m n (record s { scan = scan }) new
-scanned start now log points m n s scan old new way is within = record {
-  recount = record {
-    scan = is.counted;
-    within = within;
-    from_is = way.recount.from_is;
-    to_is = way.recount.to_is;
-    here = rw way.entered tt;
-    home = way.recount.home;
-  };
-  runs = is.runs;
-  entered = way.entered;
-}
-
--- the moment at which it is is kept
-pub kept : (start now : Board) (log : List Recorded) (points : Points) (m n : ℕ) (s : RecountState)
-    (lab : LabState) (moment : MomentState) (way : IsRecounting start log now points m n s lab)
-    → IsMomentOf moment (detached_run way.runs.0 (board_at start log s.scan.at) now)
-    → IsRecountOf start log now points m n (record s { here = Some moment })
-kept start now log points m n s lab moment way is = record {
-  scan = way.recount.scan;
-  within = way.recount.within;
-  from_is = way.recount.from_is;
-  to_is = way.recount.to_is;
-  here = same_moment moment (detached_run way.runs.0 (board_at start log s.scan.at) now)
-      (board_at start log s.scan.at) is refl refl refl;
-  home = way.recount.home;
-}
-
--- it has come to its end
-pub all_counted : (start now : Board) (log : List Recorded) (points : Points) (m n : ℕ) (s : RecountState)
-    → IsRecountOf start log now points m n s → s.to ≤ s.scan.at
-    → IsTallyOf points (hits_between points start log now m n) s.scan.tally
-all_counted start now log points m n s is end =
-    let within = is.within in
-    let to = is.to_is in
-    let all : s.scan.at ≡ n = omega (arith, within, to, end) in
-    subst (λ a. IsTallyOf points (hits_between points start log now m a) s.scan.tally) all
-    is.scan.counted.tally
-
--- it is the same on another board with the same symbols
-pub recount_elsewhere : (start now now' : Board) (log : List Recorded) (points : Points) (m n : ℕ)
-    (s : RecountState) → now.symbols ≡ now'.symbols → IsRecountOf start log now points m n s
-    → IsRecountOf start log now' points m n s
-recount_elsewhere start now now' log points m n s same is = record {
-  scan = record {
-    after = is.scan.after;
-    counted = record {
-      tally = subst (λ ps. IsTallyOf points ps s.scan.tally)
-          (on_other_board (without_hits points) start now now' log m (s.scan.at - m) same)
-          is.scan.counted.tally;
-      marks = is.scan.counted.marks;
-    };
-  };
-  within = is.within;
-  from_is = is.from_is;
-  to_is = is.to_is;
-  here = is.here;
-  home = is.home;
-}

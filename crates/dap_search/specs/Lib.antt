@@ -1,4 +1,4 @@
 pub mod Goals
-pub mod Seeks
 pub mod Recounts
+pub mod Scans
 pub mod Searches

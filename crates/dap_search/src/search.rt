@@ -1,38 +1,49 @@
 //! Searches backward: for a goal, and then for the hits of the steps that the run goes back over.
-ghost use Rattle.std.specs.Prelude.{◌≡◌, ℕ, List, None, Some, IfOk, OnOk, OnErr};
+ghost use Rattle.std.specs.Prelude.{◌≡◌, ◌≤◌, ◌<◌, ◌+◌, ℕ, List, None, Some, true, IfOk, OnOk, OnErr};
 ghost use Rattle.lab_core.specs.Board.{Board};
 ghost use Rattle.lab_core.specs.Labs.{RepresentsBoard};
+ghost use Rattle.lab_core.specs.Moments.{IsMomentOf};
 ghost use Rattle.dap_history.specs.declared.input.Recorded.{Recorded};
-ghost use Rattle.dap_history.specs.Runs.{board_at};
-ghost use Rattle.dap_history.specs.Histories.{HasRun, IsHistoryOf, ForEachRun, KeepsRestAndHistory};
-ghost use Rattle.dap_search.specs.Goals.{Target};
-ghost use Rattle.dap_search.specs.Searches.{SearchedOn, SearchKeepsRest, ForEachSearchWith, points_then};
+ghost use Rattle.dap_history.specs.Runs.{board_at, after_rewind, KeepsRest, OnlyRunChanges};
+ghost use Rattle.dap_history.specs.Histories.{HasRun, KeepsRestAndHistory};
+ghost use Rattle.dap_search.specs.Goals.{Target, goal_below};
+ghost use Rattle.dap_search.specs.Scans.{is_recount, part_of, found_in};
+ghost use Rattle.dap_search.specs.Searches.{BeginsScan, IsSearchOf, SearchedOn, SearchedWith, RecountsPart};
+ghost use Rattle.dap_search.specs.Searches.{SearchKeepsRest, ForEachSearch, ForEachSearchWith, IsUnderWay};
+ghost use Rattle.dap_search.specs.Searches.{IsNext, IsNextOf};
 
 use crate::goal::Goal;
-use crate::recount::Recount;
-use crate::seek::Seek;
+use crate::scan::Scan;
 use dap_history::fault::ReplayFault;
 use dap_history::history::History;
 use dap_slice::conditions::ConditionalBreakpoints;
 use lab_core::lab::Lab;
+use lab_core::lab::moments::Moment;
 use std::alloc::{AllocError, Global};
 use std::marker::Model;
 
-/// What a search does now: it seeks its goal, or counts the hits behind where that was.
-#[derive(Drop)]
-pub enum Stage {
-    Seeking(Seek),
-    Counting(Recount),
-}
+/// The steps of the first window, below the start of a search. Each further one is eight times as wide, up to
+/// `WIDEST`.
+const FIRST: u64 = 64;
 
-/// A search for where a run is to go back to. If breakpoints count their hits, those of the steps behind that
-/// are counted again then. It goes on in parts, so that other requests can be answered between them.
+const WIDEST: u64 = 2_097_152;
+
+/// A search for where a run is to go back to. It makes the run again in one window below the other, until it
+/// finds its goal. If breakpoints count their hits, those of the steps behind that are counted again then.
+/// It goes on in parts, so that other requests can be answered between them.
 #[derive(Drop)]
 pub struct Search {
-    stage: Stage,
+    scan: Scan,
+    /// The ends of the window.
+    low: u64,
+    high: u64,
+    width: u64,
     /// The count at which it began.
     count: u64,
-    alloc: Global,
+    /// The moment at which the scan goes on.
+    here: Option<Moment>,
+    /// The moment at which the search began.
+    home: Moment,
 }
 
 impl Model for Search {
@@ -40,31 +51,36 @@ impl Model for Search {
 
     ghost Value = { SearchState };
 
-    ghost view = { λ s. record { stage = s.stage; count = s.count } };
+    ghost view = { λ s. record {
+      scan = s.scan;
+      low = s.low;
+      high = s.high;
+      count = s.count;
+      here = s.here;
+      home = s.home;
+    } };
 }
 
-// Of a count that is known nothing is sought.
-fn first_stage(
+// The scan of the first window. Of a count that is known nothing is to be found.
+fn first_scan(
     alloc: Global,
-    lab: &mut Lab,
+    lab: &Lab,
     points: &ConditionalBreakpoints,
     goal: Goal,
     count: u64,
-) -> Result<Stage, AllocError>
-    ensures ok { (start now : Board) (log : List Recorded) → RepresentsBoard lab.old now
-        → HasRun (board_at start log count) now → IfOk result (λ stage. SearchedOn start log now
-        (record { goal = goal; points = points.now }) count None
-        (record { stage = stage; count = count }) lab.new) }
-    ensures err { OnErr result (lab.new ≡ lab.old) }
+) -> Result<Scan, AllocError>
+    ensures seen { (start now : Board) (log : List Recorded) → RepresentsBoard lab.now now
+        → IfOk result (BeginsScan start log now (record { goal = goal; points = points.now }) count) }
+    ensures within { IfOk result (λ scan. scan.at ≤ count) }
 {
     if let Goal::Count(from) = goal
         && from < count
     {
-        let recount = Recount::new(alloc, lab, points, from, count)?;
-        return Ok(Stage::Counting(recount));
+        let recount = Scan::to_recount(alloc, points, from)?;
+        return Ok(recount);
     }
-    let seek = Seek::new(alloc, lab, points, goal, count)?;
-    Ok(Stage::Seeking(seek))
+    let scan = Scan::to_find(alloc, lab, points, goal, count.saturating_sub(FIRST))?;
+    Ok(scan)
 }
 
 impl Search {
@@ -85,11 +101,17 @@ impl Search {
             (record { goal = goal; points = points.now }) count None search lab.new) }
         ensures err { OnErr result (lab.new ≡ lab.old) }
     {
-        let stage = first_stage(alloc, lab, points, goal, count)?;
+        let scan = first_scan(alloc, lab, points, goal, count)?;
+        let home = lab.moment()?;
+        lab.hold();
         Ok(Search {
-            stage,
+            low: scan.at,
+            scan,
+            high: count,
+            width: FIRST * 8,
             count,
-            alloc,
+            here: None,
+            home,
         })
     }
 
@@ -108,49 +130,149 @@ impl Search {
         lab: &mut Lab,
         points: &mut ConditionalBreakpoints,
     ) -> Result<Option<u64>, ReplayFault>
-        ensures ok { ForEachSearchWith points.old history.old self.old lab.old (λ start now target n.
-            IfOk result (λ found. SearchedOn start history.old.log now target n found self.new lab.new
-            × (points.new ≡ points_then start history.old.log now points.old n found))) }
+        ensures ok { ForEachSearchWith points.old history.old self.old lab.old (λ start now target n. IfOk
+            result (SearchedWith start history.old.log now target n points.old self.new lab.new points.new)) }
+        ensures part { IfOk result (RecountsPart self.old self.new) }
         ensures rest { SearchKeepsRest points.old history.old self.old lab.old history.new lab.new }
     {
-        match &mut self.stage {
-            Stage::Seeking(seek) => match seek.go_on(history, lab, points)? {
-                Some(found) if points.counts_hits() => {
-                    self.count_behind(history, lab, points, found)?;
-                    Ok(None)
-                }
-                found => Ok(found),
-            },
-            Stage::Counting(recount) => {
-                let from = recount.from();
-                if !recount.go_on(history, lab, points)? {
-                    return Ok(None);
-                }
-                points.take_away(recount.tally());
-                Ok(Some(from))
+        match self.make_part(history, lab, points)? {
+            Some(found) => {
+                history.go_to(lab, found)?;
+                self.scan.phase.take_hits(points);
+                Ok(Some(found))
+            }
+            None => {
+                self.pause(lab)?;
+                Ok(None)
             }
         }
     }
 
-    // Begins to count the hits behind the count that was found.
-    fn count_behind(
+    // Makes the run again for a time, from where the scan is.
+    fn make_part(
         &mut self,
         history: &mut History,
         lab: &mut Lab,
         points: &ConditionalBreakpoints,
-        found: u64,
-    ) -> Result<(), ReplayFault>
-        ensures ok { (start now : Board) (target : Target) (n : ℕ) → IsHistoryOf start history.old
-            → self.old.count ≡ n → target.points ≡ points.now
-            → SearchedOn start history.old.log now target n (Some found) self.old lab.old
-            → OnOk result (SearchedOn start history.old.log now target n None self.new lab.new) }
-        ensures rest { ForEachRun history.old lab.old
-            (KeepsRestAndHistory history.old history.new lab.new) }
+    ) -> Result<Option<u64>, ReplayFault>
+        ensures ok { ForEachSearchWith points.now history.old self.old lab.old (λ start now target n. IfOk
+            result (IsNextOf start history.old.log now target n self.new lab.new)) }
+        ensures part { IfOk result (RecountsPart self.old self.new) }
+        ensures rest { SearchKeepsRest points.now history.old self.old lab.old history.new lab.new }
     {
-        history.go_to(lab, self.count)?;
-        let from = found.min(self.count);
-        let recount = Recount::new(self.alloc, lab, points, from, self.count)?;
-        self.stage = Stage::Counting(recount);
+        self.enter(history, lab)?;
+        self.go_farther(history, lab, points)?;
+        let found = self.next(history, lab, points)?;
+        Ok(found)
+    }
+
+    // Makes the run go on from where the scan is.
+    fn enter(&mut self, history: &mut History, lab: &mut Lab) -> Result<(), ReplayFault>
+        ensures ok { ForEachSearch history.old self.old lab.old (λ start now target n. OnOk result
+            (IsUnderWay start history.old.log now target n self.new lab.new)) }
+        ensures rest { ForEachSearch history.old self.old lab.old
+            (λ start now _ _. KeepsRestAndHistory history.old history.new lab.new start now) }
+        ensures scan { self.new.scan ≡ self.old.scan }
+    {
+        let Some(here) = self.here.take() else {
+            history.run_to(lab, self.scan.at)?;
+            return Ok(());
+        };
+        lab.put_back(&here)?;
+        Ok(())
+    }
+
+    // Scans on for a time, up to the window's end.
+    fn go_farther(
+        &mut self,
+        history: &History,
+        lab: &mut Lab,
+        points: &ConditionalBreakpoints,
+    ) -> Result<(), ReplayFault>
+        ensures ok { (start now : Board) (target : Target) (n : ℕ) → target.points ≡ points.now
+            → IsUnderWay start history.now.log now target n self.old lab.old
+            → OnOk result (IsUnderWay start history.now.log now target n self.new lab.new) }
+        ensures part { OnOk result (self.new.scan.at < self.new.high
+            → self.new.scan.at ≡ self.old.scan.at + part_of self.old.scan.phase) }
+        ensures kind { is_recount self.new.scan.phase ≡ is_recount self.old.scan.phase }
+        ensures rest { OnlyRunChanges lab.old lab.new }
+    {
+        let most = self.scan.at.saturating_add(self.scan.phase.part());
+        let to = self.high.min(most).max(self.scan.at);
+        self.scan.go_to(lab, points, history.entries(), to)?;
+        Ok(())
+    }
+
+    // Returns the count that was found, once the hits behind it are counted; else sets where it goes on.
+    fn next(
+        &mut self,
+        history: &History,
+        lab: &Lab,
+        points: &ConditionalBreakpoints,
+    ) -> Result<Option<u64>, AllocError>
+        ensures ok { (start now : Board) (target : Target) (n : ℕ) → target.points ≡ points.now
+            → IsUnderWay start history.now.log now target n self.old lab.now
+            → IfOk result (IsNext start history.now.log now target n self.new) }
+        ensures part { is_recount self.old.scan.phase ≡ true → IfOk result (λ found. found ≡ None
+            → (self.old.scan.at < self.old.high) × (self.new.scan.at ≡ self.old.scan.at)) }
+    {
+        if self.scan.at < self.high {
+            let here = lab.moment()?;
+            self.here = Some(here);
+            return Ok(None);
+        }
+        let Some(found) = self.scan.phase.found(self.low) else {
+            self.begin_below(history);
+            return Ok(None);
+        };
+        if self.scan.phase.is_last(points) {
+            return Ok(Some(found));
+        }
+        self.begin_recount(points, found)?;
+        Ok(None)
+    }
+
+    // Begins with the window below this one, in which no count passes.
+    fn begin_below(&mut self, history: &History)
+        ensures { (start now : Board) (log : List Recorded) (target : Target) (n : ℕ)
+            → self.old.here ≡ None → self.old.high ≤ self.old.scan.at
+            → found_in self.old.low self.old.scan.phase ≡ None
+            → IsSearchOf start log now target n self.old → IsSearchOf start log now target n self.new }
+    {
+        let low = history.low_end(self.low, self.width);
+        self.high = self.low;
+        self.low = low;
+        self.scan.at = low;
+        self.width = self.width.saturating_mul(8).min(WIDEST);
+    }
+
+    // Begins to count the hits behind the count that was found.
+    fn begin_recount(
+        &mut self,
+        points: &ConditionalBreakpoints,
+        found: u64,
+    ) -> Result<(), AllocError>
+        ensures { (start now : Board) (log : List Recorded) (target : Target) (n : ℕ)
+            → target.points ≡ points.now → self.old.here ≡ None → found ≡ goal_below target start log now n
+            → IsSearchOf start log now target n self.old
+            → OnOk result (IsSearchOf start log now target n self.new) }
+    {
+        let scan = Scan::to_recount(self.scan.alloc, points, found)?;
+        self.scan = scan;
+        self.low = found;
+        self.high = self.count;
+        Ok(())
+    }
+
+    // Puts the run back to where the search began, and holds it there.
+    fn pause(&self, lab: &mut Lab) -> Result<(), AllocError>
+        ensures ok { (was b : Board) → IsMomentOf self.now.home was → RepresentsBoard lab.old b
+            → OnOk result (RepresentsBoard lab.new (after_rewind was b)) }
+        ensures rest { (was b : Board) → IsMomentOf self.now.home was → RepresentsBoard lab.old b
+            → KeepsRest b lab.new }
+    {
+        lab.put_back(&self.home)?;
+        lab.hold();
         Ok(())
     }
 }

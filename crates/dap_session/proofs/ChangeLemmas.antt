@@ -30,16 +30,23 @@ use Rattle.dap_answers.specs.declared.answer.Body.TheVariants as body
 use Rattle.dap_answers.specs.declared.answer.StopReason.TheVariants.{Pause as ByPause}
 use Rattle.dap_messages.specs.declared.message.EditorStop.TheVariants.{Board as AtBoard}
 use Rattle.dap_answers.specs.Murmur.{cell_path}
-use Rattle.dap_talk.specs.declared.command.DapCommand.{DapCommand}
-use Rattle.dap_talk.specs.declared.command.DapCommand.TheVariants as command
+use Rattle.dap_requests.specs.declared.request.BoardCommand.{BoardCommand}
+use Rattle.dap_requests.specs.declared.request.BoardCommand.TheVariants as command
 use Rattle.dap_board.specs.Bodies.{body_of}
-use Rattle.dap_board.specs.Commands.{Performed, IsLook as IsBoardLook, first_line, command_result, with_body}
+use Rattle.dap_board.specs.Commands.{Performed, IsLook as IsBoardLook, command_result, with_body}
+use Rattle.dap_requests.specs.Board.{kernel_command}
 use Rattle.dap_board.specs.Commands.{step_request}
 use Rattle.dap_messages.specs.declared.message.EditorEvent.TheVariants as told
 use Rattle.dap_messages.specs.declared.message.UndefinedOpcode.{UndefinedOpcode}
 use Rattle.dap_messages.specs.declared.message.ValueFormat.{ValueFormat}
 use Rattle.dap_requests.specs.declared.request.EditorCommand.{EditorCommand}
 use Rattle.dap_requests.specs.declared.request.EditorCommand.TheVariants as editor
+use Rattle.dap_requests.specs.declared.request.SourceCommand.{SourceCommand}
+use Rattle.dap_requests.specs.declared.request.SourceCommand.TheVariants as source
+use Rattle.dap_requests.specs.declared.request.BreakpointsCommand.{BreakpointsCommand}
+use Rattle.dap_requests.specs.declared.request.BreakpointsCommand.TheVariants as breakpoints
+use Rattle.dap_requests.specs.declared.request.MemoryCommand.{MemoryCommand}
+use Rattle.dap_requests.specs.declared.request.MemoryCommand.TheVariants as memory
 use Rattle.dap_requests.specs.declared.request.EvaluateContext.{EvaluateContext}
 use Rattle.dap_requests.specs.declared.request.EvaluateContext.TheVariants as context
 use Rattle.dap_requests.specs.declared.request.RequestContent.{RequestContent}
@@ -53,7 +60,7 @@ use Rattle.dap_prompt.specs.Answers.{variables_answer}
 use Rattle.dap_points.specs.Points.{has_place}
 use Rattle.dap_run.specs.declared.messages.FollowUp.{FollowUp}
 use Rattle.dap_run.specs.declared.messages.FollowUp.TheVariants as follow
-use Rattle.dap_run.specs.Boards.{board_after}
+use Rattle.dap_run.specs.Boards.{board_result, board_after}
 use Rattle.dap_breakpoints.specs.Arming.{board_armed_at}
 use Rattle.dap_run.specs.Ends.{exit_code}
 use Rattle.dap_values.specs.Distances.{address_at}
@@ -76,7 +83,8 @@ use Rattle.dap_session.specs.Launches.{beginning_in, beginning_where}
 use Rattle.dap_session.specs.Memory.{is_stopped, writing_from, writing}
 use Rattle.dap_session.specs.Targets.{going_to}
 use Rattle.dap_session.specs.Requests.{board_done, finish_done, resuming_from, explaining, set_configured}
-use Rattle.dap_session.specs.Requests.{resetting, commanding, editing, objection, asking}
+use Rattle.dap_session.specs.Requests.{resetting, on_board, on_editor, on_source, on_breakpoints, on_memory}
+use Rattle.dap_session.specs.Requests.{objection, asking}
 use Rattle.dap_session.specs.Requests.{asking_unless, turn}
 use Rattle.dap_session.specs.Laws.{SameParts, is_invalidated, IsTold, IsWatched, IsLook}
 use Rattle.dap_session.specs.Laws.{IsShown}
@@ -238,26 +246,19 @@ shown : (v : View) (s : SessionState)
     → Tells s (board_done (with_body body_of (result_of (event.Show v) s.board)) follow.Nothing s)
 shown v s = kept_done body_of _ follow.Nothing s (kept_show v s.board)
 
-command_told : (c : DapCommand) (s : SessionState) → Tells s (commanding c s)
+command_told : (c : BoardCommand) (s : SessionState) → Tells s (on_board c s)
 unfolding command_result
-command_told command.Initialize s =
-    either s.settings.is_initialized s _ _ (λ w. inl (same s.board)) (λ w. inl (same s.board))
 command_told command.Attach s = λ w. inl (same s.board)
 command_told command.Disconnect s = λ w. inl (same s.board)
 command_told command.ConfigurationDone s = begun_where s.settings.program s refl
-command_told (command.SetBreakpoints path lines) s = λ w. inl (same s.board)
 command_told command.BoardReset s = reset_over s
 command_told command.Threads s = λ w. inl (same s.board)
 command_told (command.StackTrace start levels) s = shown (view.Frames start levels) s
-command_told (command.Scopes frame) s = shown (view.Scopes frame) s
-command_told (command.Variables reference start count) s = shown (view.Variables reference start count) s
 command_told command.Continue s = continued (end_of s.settings.program) s
 command_told (command.Step kind granularity) s = stepped (end_of s.settings.program) kind granularity s
 command_told command.Pause s =
     kept_done (λ _. body.Empty) (result_of event.Pause s.board) (follow.Stopped (AtBoard ByPause)) s
     (kept_pause s.board.is_attached s.board.run s.board)
-command_told (command.Disassemble address offset instruction_offset count) s =
-    shown (view.Code (first_line s.board.machine address offset instruction_offset) count) s
 command_told (command.Source path) s = shown (view.Source path) s
 command_told (command.DumpCell code) s =
     kept_done (λ _. body.SourcePath (cell_path code))
@@ -265,16 +266,14 @@ command_told (command.DumpCell code) s =
     (kept_dump (cell_path code) code s.board)
 command_told command.DebugInfo s = shown view.Info s
 command_told command.InspectVariables s = shown (view.Variables 1 0 0) s
-command_told (command.SetVariable reference name value) s =
-    by_hand (command_result (command.SetVariable reference name value) s.board) s
 command_told (command.BoardSwitches value) s =
-    by_hand (command_result (command.BoardSwitches value) s.board) s
+    by_hand (board_result (command.BoardSwitches value) s.board) s
 command_told (command.BoardPress vector) s =
-    by_hand (command_result (command.BoardPress vector) s.board) s
+    by_hand (board_result (command.BoardPress vector) s.board) s
 command_told (command.BoardType text) s =
-    by_hand (command_result (command.BoardType text) s.board) s
+    by_hand (board_result (command.BoardType text) s.board) s
 command_told (command.BoardAliases aliases) s =
-    by_hand (command_result (command.BoardAliases aliases) s.board) s
+    by_hand (board_result (command.BoardAliases aliases) s.board) s
 
 -- ---- evaluations
 
@@ -282,10 +281,11 @@ reply_told : (p : Performed) (s : SessionState) → Tells s (command_reply p s)
 reply_told (Ok (b, board)) s = λ w. inr (told_change s w.supported w.live)
 reply_told (Err f) s = λ w. inl (same s.board)
 
-byte_told : (to : ℕ → DapCommand) (o : Option ℕ) (expression : Text) (format : ValueFormat) (s : SessionState)
+byte_told : (to : ℕ → BoardCommand) (o : Option ℕ) (expression : Text) (format : ValueFormat)
+    (s : SessionState)
     → Tells s (prompting (byte_command to o) expression format s)
 byte_told to None expression format s = λ w. inl (same s.board)
-byte_told to (Some n) expression format s = reply_told (command_result (to n) s.board) s
+byte_told to (Some n) expression format s = reply_told (board_result (to n) s.board) s
 
 prompt_told : (switches press line : Option Text) (expression : Text)
     (format : ValueFormat) (s : SessionState)
@@ -293,7 +293,7 @@ prompt_told : (switches press line : Option Text) (expression : Text)
 prompt_told (Some n) press line expression format s = byte_told _ (byte_spelled n) expression format s
 prompt_told None (Some n) line expression format s = byte_told _ (byte_spelled n) expression format s
 prompt_told None None (Some line) expression format s =
-    reply_told (command_result (command.BoardType (line ++ codes "\n")) s.board) s
+    reply_told (board_result (command.BoardType (line ++ codes "\n")) s.board) s
 prompt_told None None None expression format s = λ w. inl (same s.board)
 
 evaluated : (expression : Text) (c : EvaluateContext) (format : ValueFormat) (s : SessionState)
@@ -335,21 +335,40 @@ written address offset bytes s =
 gone : (target : ℕ) (s : SessionState) → Tells s (going_to target s)
 gone target s = either (is_stopped s.board.run) s _ _ (λ w. inr refl) (λ w. inl (same s.board))
 
-edit_told : (c : EditorCommand) (s : SessionState) → Tells s (editing c s)
+source_told : (path : Text) (c : SourceCommand) (s : SessionState) → Tells s (on_source path c s)
+source_told path (source.SetBreakpoints lines) s =
+    either (has_place path s.settings.points.lists) s _ _
+    (λ w. inl (kept_where (program_at path s.settings.program) _ s.board)) (λ w. inl (same s.board))
+source_told path (source.BreakpointLocations first last) s = λ w. inl (same s.board)
+source_told path (source.GotoTargets line) s = λ w. inl (same s.board)
+
+breakpoints_told : (c : BreakpointsCommand) (s : SessionState) → Tells s (on_breakpoints c s)
+breakpoints_told (breakpoints.SetFunctionBreakpoints functions) s =
+    λ w. inl (kept_where s.settings.program _ s.board)
+breakpoints_told (breakpoints.SetExceptionBreakpoints filters) s = λ w. inl (same s.board)
+breakpoints_told (breakpoints.DataBreakpointInfo query) s = λ w. inl (same s.board)
+breakpoints_told (breakpoints.SetDataBreakpoints on_data) s = λ w. inl (same s.board)
+breakpoints_told (breakpoints.SetInstructionBreakpoints instructions) s = λ w. inl (same s.board)
+
+memory_told : (c : MemoryCommand) (s : SessionState) → Tells s (on_memory c s)
+memory_told (memory.ReadMemory address offset count) s = λ w. inl (same s.board)
+memory_told (memory.WriteMemory address offset bytes) s = written address offset bytes s
+memory_told (memory.Disassemble address offset instruction_offset count operands) s = λ w. inl (same s.board)
+
+edit_told : (c : EditorCommand) (s : SessionState) → Tells s (on_editor c s)
 edit_told (editor.Initialize supported numbering) s =
     either s.settings.is_initialized s _ _ (λ w. inl (same s.board)) (λ w. inl (same s.board))
 edit_told editor.Terminate s = λ w. absurd (dead_over s.settings.program w.live w.program)
-edit_told (editor.SetBreakpoints path lines) s =
-    either (has_place path s.settings.points.lists) s _ _
-    (λ w. inl (kept_where (program_at path s.settings.program) _ s.board)) (λ w. inl (same s.board))
-edit_told (editor.SetFunctionBreakpoints functions) s =
-    λ w. inl (kept_where s.settings.program _ s.board)
 edit_told editor.ExceptionInfo s = explained (exception_of s.settings.program) s
 edit_told (editor.Evaluate expression c format) s = evaluated expression c format s
-edit_told (editor.Variables c) s = handled c s
-edit_told (editor.WriteMemory address offset bytes) s = written address offset bytes s
+edit_told editor.LoadedSources s = λ w. inl (same s.board)
+edit_told (editor.StepBack by) s = λ w. inl (same s.board)
+edit_told editor.ReverseContinue s = λ w. inl (same s.board)
 edit_told (editor.Goto target) s = gone target s
-edit_told other s = λ w. inl (same s.board)
+edit_told (editor.OnSource path c) s = source_told path c s
+edit_told (editor.Breakpoints c) s = breakpoints_told c s
+edit_told (editor.Memory c) s = memory_told c s
+edit_told (editor.Variables c) s = handled c s
 
 -- ---- all requests
 
@@ -358,11 +377,10 @@ watches a s r w = record { supported = w.supported; live = w.live; program = w.p
 
 told_asking : (a : RequestContent) (found : Option FileText) (s : SessionState)
     → IsWatched a s (asking a found s).state → IsTold s (asking a found s).events (asking a found s).state
-told_asking (asked.Editor (editor.Launch l)) found s w = absurd (true≢false w.loads)
-told_asking (asked.Editor (editor.Restart l)) found s w = absurd (true≢false w.loads)
-told_asking (asked.Board c) found s w = command_told c s (watches _ s (commanding c s) w)
+told_asking (asked.Load c) found s w = absurd (true≢false w.loads)
+told_asking (asked.Board c) found s w = command_told c s (watches _ s (on_board c s) w)
 told_asking (asked.Faulty f) found s w = inl (same s.board)
-told_asking (asked.Editor c) found s w = edit_told c s (watches _ s (editing c s) w)
+told_asking (asked.Editor c) found s w = edit_told c s (watches _ s (on_editor c s) w)
 
 told_unless : (o : Option Text) (a : RequestContent) (found : Option FileText) (s : SessionState)
     → IsWatched a s (asking_unless o a found s).state
@@ -390,11 +408,9 @@ quiet_explained : (o : Option UndefinedOpcode) (s : SessionState) → events_of 
 quiet_explained None s = refl
 quiet_explained (Some undefined) s = refl
 
-quiet_command : (c : DapCommand) (s : SessionState) → IsBoardLook c → events_of (commanding c s).follow ≡ []
+quiet_command : (c : BoardCommand) (s : SessionState) → IsBoardLook (kernel_command c)
+    → events_of (on_board c s).follow ≡ []
 quiet_command (command.StackTrace start levels) s is = quiet_done _ s
-quiet_command (command.Scopes frame) s is = quiet_done _ s
-quiet_command (command.Variables reference start count) s is = quiet_done _ s
-quiet_command (command.Disassemble address offset instruction_offset count) s is = quiet_done _ s
 quiet_command (command.Source path) s is = quiet_done _ s
 quiet_command command.DebugInfo s is = quiet_done _ s
 quiet_command command.InspectVariables s is = quiet_done _ s
@@ -408,13 +424,13 @@ quiet_asking (asked.Editor (editor.Evaluate expression context.Other format)) fo
 quiet_asking (asked.Editor (editor.Variables c)) found s is = quiet_shown c s is
 quiet_asking (asked.Editor editor.ExceptionInfo) found s is =
     quiet_explained (exception_of s.settings.program) s
-quiet_asking (asked.Editor (editor.ReadMemory address offset count)) found s is = refl
-quiet_asking (asked.Editor (editor.Disassemble address offset instruction_offset count operands)) found s
-    is = refl
+quiet_asking (asked.Editor (editor.Memory (memory.ReadMemory address offset count))) found s is = refl
+quiet_asking (asked.Editor (editor.Memory (memory.Disassemble address offset instructions count operands)))
+    found s is = refl
 quiet_asking (asked.Editor editor.LoadedSources) found s is = refl
-quiet_asking (asked.Editor (editor.GotoTargets path line)) found s is = refl
-quiet_asking (asked.Editor (editor.DataBreakpointInfo query)) found s is = refl
-quiet_asking (asked.Editor (editor.BreakpointLocations path first last)) found s is = refl
+quiet_asking (asked.Editor (editor.OnSource path (source.GotoTargets line))) found s is = refl
+quiet_asking (asked.Editor (editor.Breakpoints (breakpoints.DataBreakpointInfo query))) found s is = refl
+quiet_asking (asked.Editor (editor.OnSource path (source.BreakpointLocations first last))) found s is = refl
 quiet_asking other found s is = absurd is
 
 quiet_unless : (o : Option Text) (a : RequestContent) (found : Option FileText) (s : SessionState) → IsLook a

@@ -3,15 +3,8 @@ use Rattle.std.proofs.Common.{◌≡◌, ◌∙◌, ℕ, ◌++◌, Bool, true, f
 use Rattle.std.proofs.Common.{option_map, codes, if◌then◌else◌, refl, sym, ap, subst, true≢false}
 use Rattle.base_text.specs.Bytes.{Bytes, Text}
 use Rattle.base_text.specs.Latin.{latin_bytes}
-use Rattle.asm_syntax.specs.Outcome.{◌>>=◌}
-use Rattle.lab_shown.specs.declared.place.Place.{Place}
-use Rattle.lab_shown.specs.declared.place.Place.TheVariants as place
-use Rattle.lab_views.specs.declared.poke_fault.PokeFault.{PokeFault}
 use Rattle.lab_views.specs.declared.view.View.{View}
 use Rattle.lab_views.specs.declared.view.View.TheVariants as view
-use Rattle.lab_views.specs.Changes.{machine_with}
-use Rattle.lab_views.specs.Places.{place_named}
-use Rattle.lab_views.specs.Values.{value_spelled, text_at}
 use Rattle.lab_shown.specs.declared.step.StepKind.{StepKind}
 use Rattle.lab_shown.specs.declared.step.Granularity.{Granularity}
 use Rattle.lab_core.specs.declared.answer.Answer.{Answer}
@@ -21,20 +14,26 @@ use Rattle.lab_core.specs.declared.event.Event.TheVariants as event
 use Rattle.lab_core.specs.declared.run_state.RunState.{RunState}
 use Rattle.lab_core.specs.declared.run_state.RunState.TheVariants.{NoRun, Running, Stopped}
 use Rattle.lab_core.specs.Board.{Board}
-use Rattle.lab_core.specs.Events.{EventResult, result_of, while_stopped, without_run, or_poke, changed_to}
+use Rattle.lab_core.specs.Events.{EventResult, result_of, without_run}
 use Rattle.dap_answers.specs.declared.answer.Body.{Body}
 use Rattle.dap_answers.specs.declared.answer.Body.TheVariants as body
 use Rattle.dap_answers.specs.declared.answer.StopReason.TheVariants.{Pause as ByPause}
 use Rattle.dap_answers.specs.Murmur.{cell_path}
-use Rattle.dap_talk.specs.declared.command.DapCommand.{DapCommand}
-use Rattle.dap_talk.specs.declared.command.DapCommand.TheVariants as command
+use Rattle.dap_requests.specs.declared.request.BoardCommand.{BoardCommand}
+use Rattle.dap_requests.specs.declared.request.BoardCommand.TheVariants as command
 use Rattle.dap_board.specs.Bodies.{body_of}
-use Rattle.dap_board.specs.Commands.{Performed, first_line, command_result, with_body, step_request}
+use Rattle.dap_board.specs.Commands.{Performed, command_result, with_body, step_request}
 use Rattle.dap_messages.specs.declared.message.EditorStop.TheVariants.{Board as AtBoard}
 use Rattle.dap_messages.specs.declared.message.UndefinedOpcode.{UndefinedOpcode}
 use Rattle.dap_messages.specs.declared.message.ValueFormat.{ValueFormat}
 use Rattle.dap_requests.specs.declared.request.EditorCommand.{EditorCommand}
 use Rattle.dap_requests.specs.declared.request.EditorCommand.TheVariants as editor
+use Rattle.dap_requests.specs.declared.request.SourceCommand.{SourceCommand}
+use Rattle.dap_requests.specs.declared.request.SourceCommand.TheVariants as source
+use Rattle.dap_requests.specs.declared.request.BreakpointsCommand.{BreakpointsCommand}
+use Rattle.dap_requests.specs.declared.request.BreakpointsCommand.TheVariants as breakpoints
+use Rattle.dap_requests.specs.declared.request.MemoryCommand.{MemoryCommand}
+use Rattle.dap_requests.specs.declared.request.MemoryCommand.TheVariants as memory
 use Rattle.dap_requests.specs.declared.request.EvaluateContext.{EvaluateContext}
 use Rattle.dap_requests.specs.declared.request.EvaluateContext.TheVariants as context
 use Rattle.dap_requests.specs.declared.request.RequestContent.{RequestContent}
@@ -51,6 +50,7 @@ use Rattle.dap_prompt.specs.Answers.{change_in, value_set, variables_answer}
 use Rattle.dap_points.specs.Points.{has_place}
 use Rattle.dap_run.specs.declared.messages.FollowUp.{FollowUp}
 use Rattle.dap_run.specs.declared.messages.FollowUp.TheVariants as follow
+use Rattle.dap_run.specs.Boards.{board_result}
 use Rattle.dap_run.specs.Ends.{exit_code}
 use Rattle.dap_values.specs.Distances.{address_at}
 use Rattle.dap_launch.specs.declared.file.FileText.{FileText}
@@ -64,14 +64,14 @@ use Rattle.dap_run.specs.Programs.{program_at}
 use Rattle.dap_session.specs.Evaluations.{command_reply}
 use Rattle.dap_prompt.specs.Prompt.{behind, byte_spelled, byte_command, command_with}
 use Rattle.dap_session.specs.Evaluations.{prompting, evaluating, setting, handling_by, handling}
-use Rattle.dap_prompt.specs.Inputs.{place_input, valued_input, named_input, command_input, prompt_input}
+use Rattle.dap_prompt.specs.Inputs.{command_input, prompt_input}
 use Rattle.dap_prompt.specs.Inputs.{bytes_input, set_input, input_of, after_input_if}
 use Rattle.dap_session.specs.Launches.{beginning_in, beginning_where}
 use Rattle.dap_session.specs.Memory.{is_stopped, writing_from, writing}
 use Rattle.dap_session.specs.Targets.{going_to}
 use Rattle.dap_session.specs.Requests.{board_done, finish_done, resuming_from, explaining, set_configured}
-use Rattle.dap_session.specs.Requests.{resetting, terminating, commanding, editing, editing_memory}
-use Rattle.dap_session.specs.Requests.{objection, asking}
+use Rattle.dap_session.specs.Requests.{resetting, terminating, on_board, on_editor, on_source}
+use Rattle.dap_session.specs.Requests.{on_breakpoints, on_memory, objection, asking}
 use Rattle.dap_session.specs.Requests.{asking_unless, turn}
 use Rattle.dap_session.specs.Laws.{SameParts, asks_to_load, has_run, has_begun, is_begun}
 use Rattle.dap_session.specs.Rewinds.{RunLasts, can_go_back}
@@ -107,49 +107,6 @@ reply_made : (to_body : Answer → Body) (g : EventResult) (s : SessionState) (i
     → board_of s.board g ≡ after_input i s.board → Makes (Some i) s (command_reply (with_body to_body g) s)
 reply_made to_body (Ok (a, b)) s i is = λ l. subst (λ x. SameParts x b) is (same b)
 reply_made to_body (Err fault) s i is = λ l. absurd (true≢false (sym l.done))
-
--- ---- changes by hand
-
-abbrev poke_by : Result Place PokeFault → Text → Board → EventResult
-poke_by p text b = do
-  place ← or_poke p
-  n ← or_poke (value_spelled place text)
-  Ok (answer.Poked (text_at place n), changed_to (machine_with place n b.machine) b)
-
-put_made : (p : Place) (n : ℕ) (b : Board)
-    → SameParts (after_input (place_input p n b.machine.regs) b) (changed_to (machine_with p n b.machine) b)
-put_made place.A n b = record { machine = refl; past = refl; trace = refl }
-put_made place.B n b = record { machine = refl; past = refl; trace = refl }
-put_made place.C n b = record { machine = refl; past = refl; trace = refl }
-put_made place.D n b = record { machine = refl; past = refl; trace = refl }
-put_made place.E n b = record { machine = refl; past = refl; trace = refl }
-put_made place.H n b = record { machine = refl; past = refl; trace = refl }
-put_made place.L n b = record { machine = refl; past = refl; trace = refl }
-put_made place.Sp n b = record { machine = refl; past = refl; trace = refl }
-put_made place.Pc n b = record { machine = refl; past = refl; trace = refl }
-put_made (place.Memory address) n b = record { machine = refl; past = refl; trace = refl }
-
-valued_made : (v : Result ℕ PokeFault) (p : Place) (f : FollowUp) (s : SessionState)
-    → Makes (valued_input p v s.board.machine.regs) s
-    (board_done (with_body body_of (or_poke v >>= λ n. Ok (
-      answer.Poked (text_at p n),
-      changed_to (machine_with p n s.board.machine) s.board,
-    ))) f s)
-valued_made (Ok n) p f s = λ l. put_made p n s.board
-valued_made (Err fault) p f s = λ l. absurd (true≢false (sym l.done))
-
-named_made : (p : Result Place PokeFault) (text : Text) (f : FollowUp) (s : SessionState)
-    → Makes (named_input p text s.board.machine.regs) s
-    (board_done (with_body body_of (poke_by p text s.board)) f s)
-named_made (Ok p) text f s = valued_made (value_spelled p text) p f s
-named_made (Err fault) text f s = λ l. absurd (true≢false (sym l.done))
-
-poke_made : (run : RunState) (p : Result Place PokeFault) (text : Text) (f : FollowUp) (s : SessionState)
-    → Makes (named_input p text s.board.machine.regs) s
-    (board_done (with_body body_of (while_stopped run (poke_by p text s.board))) f s)
-poke_made NoRun p text f s = λ l. absurd (true≢false (sym l.done))
-poke_made Running p text f s = λ l. absurd (true≢false (sym l.done))
-poke_made Stopped p text f s = named_made p text f s
 
 -- ---- programs that end or begin
 
@@ -210,27 +167,20 @@ aliases_made Stopped b' f s is = λ l. absurd (true≢false (sym l.done))
 
 -- ---- commands of a board
 
-command_made : (c : DapCommand) (s : SessionState)
-    → Makes (command_input c s.board.machine.regs) s (commanding c s)
+command_made : (c : BoardCommand) (s : SessionState)
+    → Makes (command_input c) s (on_board c s)
 unfolding command_result
-command_made command.Initialize s =
-    either s.settings.is_initialized None s _ _ (λ l. same s.board) (λ l. same s.board)
 command_made command.Attach s = λ l. same s.board
 command_made command.Disconnect s = λ l. same s.board
 command_made command.ConfigurationDone s = configured_made s.settings.program s refl
-command_made (command.SetBreakpoints path lines) s = λ l. same s.board
 command_made command.BoardReset s = reset_made s
 command_made command.Threads s = λ l. same s.board
 command_made (command.StackTrace start levels) s = shown_made (view.Frames start levels) s
-command_made (command.Scopes frame) s = shown_made (view.Scopes frame) s
-command_made (command.Variables reference start count) s = shown_made (view.Variables reference start count) s
 command_made command.Continue s = continue_made (end_of s.settings.program) s
 command_made (command.Step kind granularity) s = step_made (end_of s.settings.program) kind granularity s
 command_made command.Pause s =
     kept_made (λ _. body.Empty) (result_of event.Pause s.board) (follow.Stopped (AtBoard ByPause)) s
     (kept_pause s.board.is_attached s.board.run s.board)
-command_made (command.Disassemble address offset instruction_offset count) s =
-    shown_made (view.Code (first_line s.board.machine address offset instruction_offset) count) s
 command_made (command.Source path) s = shown_made (view.Source path) s
 command_made (command.DumpCell code) s =
     kept_made (λ _. body.SourcePath (cell_path code))
@@ -238,8 +188,6 @@ command_made (command.DumpCell code) s =
     (kept_dump (cell_path code) code s.board)
 command_made command.DebugInfo s = shown_made view.Info s
 command_made command.InspectVariables s = shown_made (view.Variables 1 0 0) s
-command_made (command.SetVariable reference name value) s =
-    poke_made s.board.run (place_named reference name) value _ s
 command_made (command.BoardSwitches value) s =
     event_made (λ _. body.Empty) (result_of (event.Switches value) s.board) _ s (input.Switches value) refl
 command_made (command.BoardPress vector) s =
@@ -252,7 +200,7 @@ command_made (command.BoardAliases aliases) s = aliases_made s.board.run _ (chan
 -- ---- evaluations
 
 switches_made : (o : Option ℕ) (expression : Text) (format : ValueFormat) (s : SessionState)
-    → Makes (prompt_input (byte_command (λ value. command.BoardSwitches value) o) s.board.machine.regs) s
+    → Makes (prompt_input (byte_command (λ value. command.BoardSwitches value) o)) s
     (prompting (byte_command (λ value. command.BoardSwitches value) o) expression format s)
 unfolding command_result
 switches_made None expression format s = λ l. same s.board
@@ -260,7 +208,7 @@ switches_made (Some n) expression format s =
     reply_made (λ _. body.Empty) (result_of (event.Switches n) s.board) s (input.Switches n) refl
 
 press_made : (o : Option ℕ) (expression : Text) (format : ValueFormat) (s : SessionState)
-    → Makes (prompt_input (byte_command (λ vector. command.BoardPress vector) o) s.board.machine.regs) s
+    → Makes (prompt_input (byte_command (λ vector. command.BoardPress vector) o)) s
     (prompting (byte_command (λ vector. command.BoardPress vector) o) expression format s)
 unfolding command_result
 press_made None expression format s = λ l. same s.board
@@ -269,7 +217,7 @@ press_made (Some n) expression format s =
 
 type_made : (text : Text) (s : SessionState)
     → Makes (Some (input.Typed (latin_bytes text))) s
-    (command_reply (command_result (command.BoardType text) s.board) s)
+    (command_reply (board_result (command.BoardType text) s.board) s)
 unfolding command_result
 type_made text s =
     reply_made (λ _. body.Empty) (result_of (event.Typed (latin_bytes text)) s.board) s
@@ -277,7 +225,7 @@ type_made text s =
 
 prompt_made : (switches press line : Option Text) (expression : Text)
     (format : ValueFormat) (s : SessionState)
-    → Makes (prompt_input (command_with switches press line) s.board.machine.regs) s
+    → Makes (prompt_input (command_with switches press line)) s
     (prompting (command_with switches press line) expression format s)
 prompt_made (Some n) press line expression format s = switches_made (byte_spelled n) expression format s
 prompt_made None (Some n) line expression format s = press_made (byte_spelled n) expression format s
@@ -335,36 +283,43 @@ explained_made : (o : Option UndefinedOpcode) (s : SessionState) → Makes None 
 explained_made None s = λ l. same s.board
 explained_made (Some undefined) s = λ l. same s.board
 
-memory_made : (c : EditorCommand) (s : SessionState)
-    → Makes (input_of (asked.Editor c) s.board) s (editing_memory c s)
-memory_made (editor.ReadMemory address offset count) s = λ l. same s.board
-memory_made (editor.WriteMemory address offset bytes) s = writing_made address offset bytes s
-memory_made (editor.Disassemble address offset instruction_offset count operands) s = λ l. same s.board
-memory_made (editor.GotoTargets path line) s = λ l. same s.board
-memory_made (editor.Goto target) s = goto_made target s
-memory_made (editor.Variables c) s = handled_made c s
-memory_made other s = λ l. absurd (true≢false (sym l.done))
+source_made : (path : Text) (c : SourceCommand) (s : SessionState) → Makes None s (on_source path c s)
+source_made path (source.SetBreakpoints lines) s =
+    either (has_place path s.settings.points.lists) None s _ _
+    (λ l. kept_where (program_at path s.settings.program) _ s.board) (λ l. same s.board)
+source_made path (source.BreakpointLocations first last) s = λ l. same s.board
+source_made path (source.GotoTargets line) s = λ l. same s.board
+
+breakpoints_made : (c : BreakpointsCommand) (s : SessionState) → Makes None s (on_breakpoints c s)
+breakpoints_made (breakpoints.SetFunctionBreakpoints functions) s =
+    λ l. kept_where s.settings.program _ s.board
+breakpoints_made (breakpoints.SetExceptionBreakpoints filters) s = λ l. same s.board
+breakpoints_made (breakpoints.DataBreakpointInfo query) s = λ l. same s.board
+breakpoints_made (breakpoints.SetDataBreakpoints on_data) s = λ l. same s.board
+breakpoints_made (breakpoints.SetInstructionBreakpoints instructions) s = λ l. same s.board
+
+memory_made : (c : MemoryCommand) (s : SessionState)
+    → Makes (input_of (asked.Editor (editor.Memory c)) s.board) s (on_memory c s)
+memory_made (memory.ReadMemory address offset count) s = λ l. same s.board
+memory_made (memory.WriteMemory address offset bytes) s = writing_made address offset bytes s
+memory_made (memory.Disassemble address offset instruction_offset count operands) s = λ l. same s.board
 
 edit_made : (c : EditorCommand) (s : SessionState)
-    → Makes (input_of (asked.Editor c) s.board) s (editing c s)
+    → Makes (input_of (asked.Editor c) s.board) s (on_editor c s)
 edit_made (editor.Initialize supported numbering) s =
     either s.settings.is_initialized None s _ _ (λ l. same s.board) (λ l. same s.board)
 edit_made editor.Terminate s =
     λ l. absurd (over_lasts s.settings.program (begun_before (terminating s).state l.after))
-edit_made (editor.SetBreakpoints path lines) s =
-    either (has_place path s.settings.points.lists) None s _ _
-    (λ l. kept_where (program_at path s.settings.program) _ s.board) (λ l. same s.board)
-edit_made (editor.SetFunctionBreakpoints functions) s =
-    λ l. kept_where s.settings.program _ s.board
-edit_made (editor.DataBreakpointInfo query) s = λ l. same s.board
-edit_made (editor.SetDataBreakpoints breakpoints) s = λ l. same s.board
-edit_made (editor.SetInstructionBreakpoints breakpoints) s = λ l. same s.board
-edit_made (editor.BreakpointLocations path first last) s = λ l. same s.board
 edit_made editor.ExceptionInfo s = explained_made (exception_of s.settings.program) s
 edit_made (editor.Evaluate expression c format) s = evaluated_made expression c format s
-edit_made (editor.SetExceptionBreakpoints filters) s = λ l. same s.board
 edit_made editor.LoadedSources s = λ l. same s.board
-edit_made other s = memory_made other s
+edit_made (editor.StepBack by) s = λ l. absurd (true≢false (sym l.done))
+edit_made editor.ReverseContinue s = λ l. absurd (true≢false (sym l.done))
+edit_made (editor.Goto target) s = goto_made target s
+edit_made (editor.OnSource path c) s = source_made path c s
+edit_made (editor.Breakpoints c) s = breakpoints_made c s
+edit_made (editor.Memory c) s = memory_made c s
+edit_made (editor.Variables c) s = handled_made c s
 
 -- ---- all requests
 
@@ -374,8 +329,7 @@ MakesBy a s t = RunLasts s t
 
 made_asking : (a : RequestContent) (found : Option FileText) (s : SessionState) → asks_to_load a ≡ false
     → MakesBy a s (asking a found s)
-made_asking (asked.Editor (editor.Launch l)) found s loads = absurd (true≢false loads)
-made_asking (asked.Editor (editor.Restart l)) found s loads = absurd (true≢false loads)
+made_asking (asked.Load c) found s loads = absurd (true≢false loads)
 made_asking (asked.Board c) found s loads = command_made c s
 made_asking (asked.Faulty f) found s loads = λ l. same s.board
 made_asking (asked.Editor c) found s loads = edit_made c s

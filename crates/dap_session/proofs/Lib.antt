@@ -1,4 +1,4 @@
-pub mod EditLemmas
+pub mod EffectLemmas
 pub mod LoadLemmas
 pub mod SessionLemmas
 pub mod StandsLemmas

@@ -4,13 +4,20 @@ use Rattle.std.proofs.Common.{codes, if◌then◌else◌, unwrap_or, refl}
 use Rattle.base_text.specs.Bytes.{Bytes, Text}
 use Rattle.lab_core.specs.declared.answer.End.{End}
 use Rattle.lab_core.specs.Board.{Board}
-use Rattle.dap_talk.specs.declared.command.DapCommand.{DapCommand}
-use Rattle.dap_talk.specs.declared.command.DapCommand.TheVariants as command
+use Rattle.dap_requests.specs.declared.request.BoardCommand.{BoardCommand}
+use Rattle.dap_requests.specs.declared.request.BoardCommand.TheVariants as command
 use Rattle.dap_board.specs.Commands.{Performed, command_result}
 use Rattle.dap_messages.specs.declared.message.UndefinedOpcode.{UndefinedOpcode}
 use Rattle.dap_messages.specs.declared.message.ValueFormat.{ValueFormat}
 use Rattle.dap_requests.specs.declared.request.EditorCommand.{EditorCommand}
 use Rattle.dap_requests.specs.declared.request.EditorCommand.TheVariants as editor
+use Rattle.dap_requests.specs.declared.request.LoadCommand.TheVariants as load
+use Rattle.dap_requests.specs.declared.request.SourceCommand.{SourceCommand}
+use Rattle.dap_requests.specs.declared.request.SourceCommand.TheVariants as source
+use Rattle.dap_requests.specs.declared.request.BreakpointsCommand.{BreakpointsCommand}
+use Rattle.dap_requests.specs.declared.request.BreakpointsCommand.TheVariants as breakpoints
+use Rattle.dap_requests.specs.declared.request.MemoryCommand.{MemoryCommand}
+use Rattle.dap_requests.specs.declared.request.MemoryCommand.TheVariants as memory
 use Rattle.dap_requests.specs.declared.request.LineBreakpoint.{LineBreakpoint}
 use Rattle.dap_requests.specs.declared.request.EvaluateContext.{EvaluateContext}
 use Rattle.dap_requests.specs.declared.request.EvaluateContext.TheVariants as context
@@ -28,6 +35,7 @@ use Rattle.dap_launch.specs.declared.load.LoadFault.{LoadFault}
 use Rattle.dap_run.specs.declared.messages.FollowUp.{FollowUp}
 use Rattle.dap_launch.specs.declared.opening.LoadReason.{LoadReason}
 use Rattle.dap_launch.specs.declared.opening.LoadReason.TheVariants.{Launch, Restart}
+use Rattle.dap_run.specs.Boards.{board_result}
 use Rattle.dap_run.specs.Ends.{exit_code}
 use Rattle.dap_launch.specs.Loading.{load_result}
 use Rattle.dap_values.specs.Distances.{address_at}
@@ -48,7 +56,8 @@ use Rattle.dap_session.specs.Launches.{launching_over, restarting_of}
 use Rattle.dap_session.specs.Memory.{is_stopped, writing_from, writing}
 use Rattle.dap_session.specs.Targets.{going_to}
 use Rattle.dap_session.specs.Requests.{board_done, finish_done, resuming_from, explaining, set_configured}
-use Rattle.dap_session.specs.Requests.{resetting, commanding, editing, objection, asking, asking_unless, turn}
+use Rattle.dap_session.specs.Requests.{resetting, on_board, on_editor, on_source, on_breakpoints, on_memory}
+use Rattle.dap_session.specs.Requests.{objection, asking, asking_unless, turn}
 use Rattle.dap_session.specs.Laws.{LeavesAll, RefusalLeaves}
 
 abbrev Refuses : SessionState → Replied → Type 0
@@ -75,9 +84,9 @@ finished : (p : Performed) (code : ℕ) (s : SessionState) → Refuses s (finish
 finished (Ok (b, board)) code s = λ text is. absurd cc
 finished (Err fault) code s = λ text is. same s
 
-resumed : (o : Option End) (c : DapCommand) (s : SessionState) → Refuses s (resuming_from o c s)
-resumed None c s = done (command_result c s.board) _ s
-resumed (Some how) c s = finished (command_result c s.board) (exit_code how) s
+resumed : (o : Option End) (c : BoardCommand) (s : SessionState) → Refuses s (resuming_from o c s)
+resumed None c s = done (board_result c s.board) _ s
+resumed (Some how) c s = finished (board_result c s.board) (exit_code how) s
 
 begun_in : (h : Phase) (p : Program) (s s' : SessionState)
     → RefusalLeaves s (beginning_in h p s').outcome (beginning_in h p s').state
@@ -99,18 +108,15 @@ lines : (path : Text) (ls : List LineBreakpoint) (s : SessionState) → Refuses 
 lines path ls s = either (has_place path s.settings.points.lists) s _ _ (λ text is. absurd cc)
     (λ text is. same s)
 
-command_left : (c : DapCommand) (s : SessionState) → Refuses s (commanding c s)
-command_left command.Initialize s =
-    either s.settings.is_initialized s _ _ (λ text is. same s) (λ text is. absurd cc)
+command_left : (c : BoardCommand) (s : SessionState) → Refuses s (on_board c s)
 command_left command.Attach s = λ text is. same s
 command_left command.Disconnect s = λ text is. absurd cc
 command_left command.ConfigurationDone s = begun s.settings.program s (set_configured s)
-command_left (command.SetBreakpoints path ls) s = λ text is. same s
 command_left command.BoardReset s = reset_done s
 command_left command.Continue s = resumed (end_of s.settings.program) command.Continue s
 command_left (command.Step kind granularity) s =
     resumed (end_of s.settings.program) (command.Step kind granularity) s
-command_left other s = done (command_result other s.board) _ s
+command_left other s = done (board_result other s.board) _ s
 
 -- ---- evaluations
 
@@ -118,10 +124,11 @@ reply_left : (p : Performed) (s : SessionState) → Refuses s (command_reply p s
 reply_left (Ok (b, board)) s = λ text is. absurd cc
 reply_left (Err f) s = λ text is. same s
 
-byte_left : (to : ℕ → DapCommand) (o : Option ℕ) (expression : Text) (format : ValueFormat) (s : SessionState)
+byte_left : (to : ℕ → BoardCommand) (o : Option ℕ) (expression : Text) (format : ValueFormat)
+    (s : SessionState)
     → Refuses s (prompting (byte_command to o) expression format s)
 byte_left to None expression format s = λ text is. same s
-byte_left to (Some n) expression format s = reply_left (command_result (to n) s.board) s
+byte_left to (Some n) expression format s = reply_left (board_result (to n) s.board) s
 
 prompt_left : (switches press line : Option Text) (expression : Text)
     (format : ValueFormat) (s : SessionState)
@@ -129,7 +136,7 @@ prompt_left : (switches press line : Option Text) (expression : Text)
 prompt_left (Some n) press line expression format s = byte_left _ (byte_spelled n) expression format s
 prompt_left None (Some n) line expression format s = byte_left _ (byte_spelled n) expression format s
 prompt_left None None (Some line) expression format s =
-    reply_left (command_result (command.BoardType (line ++ codes "\n")) s.board) s
+    reply_left (board_result (command.BoardType (line ++ codes "\n")) s.board) s
 prompt_left None None None expression format s = λ text is. same s
 
 evaluated : (expression : Text) (c : EvaluateContext) (format : ValueFormat) (s : SessionState)
@@ -169,27 +176,37 @@ written address offset bytes s =
 gone : (target : ℕ) (s : SessionState) → Refuses s (going_to target s)
 gone target s = either (is_stopped s.board.run) s _ _ (λ text is. absurd cc) (λ text is. same s)
 
-edit_left : (c : EditorCommand) (s : SessionState) → Refuses s (editing c s)
+source_left : (path : Text) (c : SourceCommand) (s : SessionState) → Refuses s (on_source path c s)
+source_left path (source.SetBreakpoints ls) s = lines path ls s
+source_left path (source.BreakpointLocations first last) s = λ text is. absurd cc
+source_left path (source.GotoTargets line) s = λ text is. absurd cc
+
+breakpoints_left : (c : BreakpointsCommand) (s : SessionState) → Refuses s (on_breakpoints c s)
+breakpoints_left (breakpoints.SetFunctionBreakpoints functions) s = λ text is. absurd cc
+breakpoints_left (breakpoints.SetExceptionBreakpoints filters) s = λ text is. absurd cc
+breakpoints_left (breakpoints.DataBreakpointInfo query) s = λ text is. absurd cc
+breakpoints_left (breakpoints.SetDataBreakpoints on_data) s = λ text is. absurd cc
+breakpoints_left (breakpoints.SetInstructionBreakpoints instructions) s = λ text is. absurd cc
+
+memory_left : (c : MemoryCommand) (s : SessionState) → Refuses s (on_memory c s)
+memory_left (memory.ReadMemory address offset count) s = λ text is. absurd cc
+memory_left (memory.WriteMemory address offset bytes) s = written address offset bytes s
+memory_left (memory.Disassemble address offset instruction_offset count operands) s = λ text is. absurd cc
+
+edit_left : (c : EditorCommand) (s : SessionState) → Refuses s (on_editor c s)
 edit_left (editor.Initialize supported numbering) s =
     either s.settings.is_initialized s _ _ (λ text is. same s) (λ text is. absurd cc)
 edit_left editor.Terminate s = λ text is. absurd cc
-edit_left (editor.SetBreakpoints path ls) s = lines path ls s
-edit_left (editor.SetFunctionBreakpoints functions) s = λ text is. absurd cc
-edit_left (editor.DataBreakpointInfo query) s = λ text is. absurd cc
-edit_left (editor.SetDataBreakpoints breakpoints) s = λ text is. absurd cc
-edit_left (editor.SetInstructionBreakpoints breakpoints) s = λ text is. absurd cc
-edit_left (editor.BreakpointLocations path first last) s = λ text is. absurd cc
-edit_left (editor.SetExceptionBreakpoints filters) s = λ text is. absurd cc
 edit_left editor.ExceptionInfo s = explained (exception_of s.settings.program) s
 edit_left (editor.Evaluate expression c format) s = evaluated expression c format s
-edit_left (editor.Variables c) s = handled_by (variables_answer c s.board) s
-edit_left (editor.ReadMemory address offset count) s = λ text is. absurd cc
-edit_left (editor.Disassemble address offset instruction_offset count operands) s = λ text is. absurd cc
 edit_left editor.LoadedSources s = λ text is. absurd cc
-edit_left (editor.WriteMemory address offset bytes) s = written address offset bytes s
-edit_left (editor.GotoTargets path line) s = λ text is. absurd cc
+edit_left (editor.StepBack by) s = λ text is. same s
+edit_left editor.ReverseContinue s = λ text is. same s
 edit_left (editor.Goto target) s = gone target s
-edit_left other s = λ text is. same s
+edit_left (editor.OnSource path c) s = source_left path c s
+edit_left (editor.Breakpoints c) s = breakpoints_left c s
+edit_left (editor.Memory c) s = memory_left c s
+edit_left (editor.Variables c) s = handled_by (variables_answer c s.board) s
 
 -- ---- programs that are loaded
 
@@ -218,8 +235,8 @@ restarted (Some p) l found s =
 
 asked_left : (a : RequestContent) (found : Option FileText) (s : SessionState)
     → RefusesTurn s (asking a found s)
-asked_left (asked.Editor (editor.Launch l)) found s = launched s.settings.program l found s
-asked_left (asked.Editor (editor.Restart l)) found s = restarted s.settings.program l found s
+asked_left (asked.Load (load.Launch l)) found s = launched s.settings.program l found s
+asked_left (asked.Load (load.Restart l)) found s = restarted s.settings.program l found s
 asked_left (asked.Board c) found s = command_left c s
 asked_left (asked.Faulty f) found s = λ text is. same s
 asked_left (asked.Editor c) found s = edit_left c s

@@ -2,7 +2,8 @@
 -- `setVariable`, `setExpression` and `completions`).
 use Rattle.std.specs.Prelude.{Result, Ok, Err, codes, if◌then◌else◌}
 use Rattle.base_text.specs.Bytes.{Text}
-use Rattle.dap_board.specs.Commands.{Performed, command_result}
+use Rattle.dap_board.specs.Commands.{Performed}
+use Rattle.dap_run.specs.Boards.{board_result}
 use Rattle.dap_requests.specs.declared.request.EvaluateContext.{EvaluateContext}
 use Rattle.dap_requests.specs.declared.request.EvaluateContext.TheVariants.{Repl, Watch, Other}
 use Rattle.dap_requests.specs.declared.request.VariablesCommand.{VariablesCommand}
@@ -48,7 +49,7 @@ looking_at_prompt line format s = showing (prompt_evaluation s.board line format
 -- ---- both
 
 abbrev pub prompting : PromptCommand → Text → ValueFormat → SessionState → Replied
-prompting (prompt.Board c) expression format s = command_reply (command_result c s.board) s
+prompting (prompt.Board c) expression format s = command_reply (board_result c s.board) s
 prompting prompt.MissingByte expression format s = refusing (codes "a number from 0 to 255 must follow") s
 prompting prompt.Evaluate expression format s = looking_at_prompt expression format s
 

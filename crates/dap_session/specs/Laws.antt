@@ -18,8 +18,12 @@ use Rattle.dap_messages.specs.declared.message.EditorOutcome.{EditorOutcome}
 use Rattle.dap_messages.specs.declared.message.EditorOutcome.TheVariants.{Refused}
 use Rattle.dap_messages.specs.declared.message.OutputCategory.TheVariants.{Stdout}
 use Rattle.dap_requests.specs.declared.request.EvaluateContext.TheVariants as context
-use Rattle.dap_talk.specs.declared.command.DapCommand.TheVariants as command
 use Rattle.dap_board.specs.Commands as board
+use Rattle.dap_requests.specs.Board.{kernel_command}
+use Rattle.dap_requests.specs.declared.request.BoardCommand.TheVariants as command
+use Rattle.dap_requests.specs.declared.request.SourceCommand.TheVariants as source
+use Rattle.dap_requests.specs.declared.request.BreakpointsCommand.TheVariants as breakpoints
+use Rattle.dap_requests.specs.declared.request.MemoryCommand.TheVariants as memory
 use Rattle.dap_requests.specs.declared.request.RequestContent.{RequestContent}
 use Rattle.dap_requests.specs.declared.request.RequestContent.TheVariants as asked
 use Rattle.dap_requests.specs.declared.request.EditorCommand.TheVariants as editor
@@ -147,9 +151,10 @@ events_in messages = filter_map event_in messages
 
 -- a request that loads a program
 abbrev pub asks_to_load : RequestContent → Bool
-asks_to_load (asked.Editor (editor.Launch l)) = true
-asks_to_load (asked.Editor (editor.Restart l)) = true
-asks_to_load other = false
+asks_to_load (asked.Load c) = true
+asks_to_load (asked.Board c) = false
+asks_to_load (asked.Editor c) = false
+asks_to_load (asked.Faulty f) = false
 
 abbrev pub loads : Input → Bool
 loads (request r found) = asks_to_load r.asked
@@ -225,15 +230,16 @@ IsShown other = Unit {0}
 
 -- a request that only looks
 abbrev pub IsLook : RequestContent → Type 0
-IsLook (asked.Board c) = board.IsLook c
+IsLook (asked.Board c) = board.IsLook (kernel_command c)
 IsLook (asked.Editor (editor.Evaluate expression context.Watch format)) = Unit {0}
 IsLook (asked.Editor (editor.Evaluate expression context.Other format)) = Unit {0}
 IsLook (asked.Editor (editor.Variables c)) = IsShown c
 IsLook (asked.Editor editor.ExceptionInfo) = Unit {0}
-IsLook (asked.Editor (editor.ReadMemory address offset count)) = Unit {0}
-IsLook (asked.Editor (editor.Disassemble address offset instruction_offset count operands)) = Unit {0}
+IsLook (asked.Editor (editor.Memory (memory.ReadMemory address offset count))) = Unit {0}
+IsLook (asked.Editor (editor.Memory (memory.Disassemble address offset instruction_offset count operands))) =
+    Unit {0}
 IsLook (asked.Editor editor.LoadedSources) = Unit {0}
-IsLook (asked.Editor (editor.GotoTargets path line)) = Unit {0}
-IsLook (asked.Editor (editor.DataBreakpointInfo query)) = Unit {0}
-IsLook (asked.Editor (editor.BreakpointLocations path first last)) = Unit {0}
+IsLook (asked.Editor (editor.OnSource path (source.GotoTargets line))) = Unit {0}
+IsLook (asked.Editor (editor.Breakpoints (breakpoints.DataBreakpointInfo query))) = Unit {0}
+IsLook (asked.Editor (editor.OnSource path (source.BreakpointLocations first last))) = Unit {0}
 IsLook other = ⊥

@@ -7,6 +7,7 @@ pub mod Targets
 pub mod Launches
 pub mod Requests
 pub mod Slices
+pub mod Effects
 pub mod Represents
 pub mod Rewinds
 pub mod Laws

@@ -1,5 +1,10 @@
 -- Which states a session represents.
 use Rattle.std.specs.Prelude.{◌≡◌, ℕ, Option, Result, List, OnErr, IfOk, true}
+use Rattle.dap_history.specs.declared.input.Input.{Input}
+use Rattle.dap_prompt.specs.Inputs.{is_success}
+use Rattle.dap_prompt.specs.declared.outcome.InputReply.{InputReply}
+use Rattle.dap_prompt.specs.declared.outcome.RequestOutcome.{RequestOutcome}
+use Rattle.dap_session.specs.Effects.{ToldOutcome}
 use Rattle.std.specs.declared.alloc.AllocError.{AllocError}
 use Rattle.lab_core.specs.Labs.{LabState, RepresentsBoard}
 use Rattle.dap_messages.specs.declared.message.Message.{Message}
@@ -40,6 +45,18 @@ RepliesAs f old result new =
     ((s : SessionState) → RepresentsSession old s → IfOk result (λ reply. Replies (f s) reply new))
     × OnErr result (new ≡ old)
 
+-- the same with the input that the request is, if it is carried out
+pub record Makes (r : Replied) (i : Option Input) (made : InputReply) (new : SessionFields) : Type 0 where
+  pub replies : Replies r made.reply new
+  pub input : is_success r.outcome ≡ true → made.input ≡ i
+
+abbrev pub MakesAs : (SessionState → Replied) → (SessionState → Option Input) → SessionFields
+    → Result InputReply AllocError → SessionFields
+    → Type 0
+MakesAs f i old result new =
+    ((s : SessionState) → RepresentsSession old s → IfOk result (λ made. Makes (f s) (i s) made new))
+    × OnErr result (new ≡ old)
+
 -- these messages go out, and the session represents the state after them
 abbrev pub Tells : Told → List Message → SessionFields → Type 0
 Tells t messages new = (messages ≡ t.messages) × RepresentsSession new t.state
@@ -50,6 +67,19 @@ abbrev pub TellsAs : (SessionState → Told) → SessionFields → Result (List 
     → Type 0
 TellsAs f old result new =
     ((s : SessionState) → RepresentsSession old s → IfOk result (λ messages. Tells (f s) messages new))
+    × OnErr result (new ≡ old)
+
+-- the same with what the request did
+pub record Takes (t : ToldOutcome) (o : RequestOutcome) (new : SessionFields) : Type 0 where
+  pub messages : o.messages ≡ t.messages
+  pub effect : o.effect ≡ t.effect
+  pub represents : RepresentsSession new t.state
+
+abbrev pub TakesAs : (SessionState → ToldOutcome) → SessionFields → Result RequestOutcome AllocError
+    → SessionFields
+    → Type 0
+TakesAs f old result new =
+    ((s : SessionState) → RepresentsSession old s → IfOk result (λ outcome. Takes (f s) outcome new))
     × OnErr result (new ≡ old)
 
 -- a run goes on

@@ -5,25 +5,32 @@ use Rattle.base_text.specs.Bytes.{Text}
 use Rattle.lab_core.specs.declared.answer.End.{End}
 use Rattle.lab_core.specs.declared.event.Event.TheVariants.{Interrupt}
 use Rattle.dap_answers.specs.declared.answer.StopReason.TheVariants.{Pause as ByPause}
-use Rattle.dap_talk.specs.declared.command.DapCommand.{DapCommand}
-use Rattle.dap_talk.specs.declared.command.DapCommand.TheVariants as command
-use Rattle.dap_board.specs.Commands.{Performed, command_result}
+use Rattle.dap_board.specs.Commands.{Performed}
 use Rattle.dap_messages.specs.declared.message.UndefinedOpcode.{UndefinedOpcode}
 use Rattle.dap_messages.specs.declared.message.EditorBody.TheVariants as body
 use Rattle.dap_messages.specs.declared.message.EditorStop.TheVariants.{Board as AtBoard}
 use Rattle.dap_messages.specs.declared.message.Numbering.{Numbering}
 use Rattle.dap_messages.specs.declared.message.OperandStyle.{OperandStyle}
-use Rattle.dap_messages.specs.Numbering.{from_1}
 use Rattle.dap_requests.specs.declared.request.RequestContent.{RequestContent}
 use Rattle.dap_requests.specs.declared.request.RequestContent.TheVariants as asked
 use Rattle.dap_requests.specs.declared.request.EditorCommand.{EditorCommand}
 use Rattle.dap_requests.specs.declared.request.EditorCommand.TheVariants as editor
+use Rattle.dap_requests.specs.declared.request.LoadCommand.TheVariants as load
+use Rattle.dap_requests.specs.declared.request.BoardCommand.{BoardCommand}
+use Rattle.dap_requests.specs.declared.request.BoardCommand.TheVariants as board
+use Rattle.dap_requests.specs.declared.request.SourceCommand.{SourceCommand}
+use Rattle.dap_requests.specs.declared.request.SourceCommand.TheVariants as source
+use Rattle.dap_requests.specs.declared.request.BreakpointsCommand.{BreakpointsCommand}
+use Rattle.dap_requests.specs.declared.request.BreakpointsCommand.TheVariants as breakpoints
+use Rattle.dap_requests.specs.declared.request.MemoryCommand.{MemoryCommand}
+use Rattle.dap_requests.specs.declared.request.MemoryCommand.TheVariants as memory
+use Rattle.dap_requests.specs.Traits.{opens}
 use Rattle.dap_requests.specs.declared.offset.SignedOffset.{SignedOffset}
 use Rattle.dap_requests.specs.declared.request.SupportedEvents.{SupportedEvents}
 use Rattle.dap_run.specs.declared.messages.FollowUp.{FollowUp}
 use Rattle.dap_run.specs.declared.messages.FollowUp.TheVariants as follow
-use Rattle.dap_run.specs.Boards.{after}
-use Rattle.dap_run.specs.Bounds.{opens, is_bounded}
+use Rattle.dap_run.specs.Boards.{after, board_result}
+use Rattle.dap_run.specs.Bounds.{is_bounded}
 use Rattle.dap_run.specs.Ends.{exit_code}
 use Rattle.dap_values.specs.Distances.{address_at, far_address, wrapped_at}
 use Rattle.dap_run.specs.Refusals.{board_refusal, request_refusal}
@@ -31,7 +38,7 @@ use Rattle.dap_launch.specs.declared.file.FileText.{FileText}
 use Rattle.dap_run.specs.declared.program.Program.{Program}
 use Rattle.dap_run.specs.Lives.{is_live, end_of, exception_of}
 use Rattle.dap_prompt.specs.Inputs.{ends_question}
-use Rattle.dap_session.specs.States.{SessionState, no_events, with_board, with_filters, after_answer}
+use Rattle.dap_session.specs.States.{SessionState, with_board, with_filters, after_answer}
 use Rattle.dap_session.specs.States.{program_over}
 use Rattle.dap_session.specs.Turns.{Turn, Replied, turn_of, change_follow, refusing, succeeding, accepting}
 use Rattle.dap_session.specs.Breakpoints.{setting_lines, setting_functions, setting_data, describing_data}
@@ -43,37 +50,27 @@ use Rattle.dap_session.specs.Launches.{beginning_where, launching, restarting}
 
 -- ---- commands of a board
 
--- the event behind the response to a command
-abbrev pub follow_of : DapCommand → SessionState → FollowUp
-follow_of command.Pause s = follow.Stopped (AtBoard ByPause)
-follow_of (command.SetVariable reference name value) s = change_follow s
-follow_of (command.BoardSwitches value) s = change_follow s
-follow_of (command.BoardPress vector) s = change_follow s
-follow_of (command.BoardType text) s = change_follow s
-follow_of (command.BoardAliases has_aliases) s = change_follow s
-follow_of other s = follow.Nothing
-
 abbrev pub board_done : Performed → FollowUp → SessionState → Replied
-board_done (Ok (b, board)) f s = succeeding (body.Board b) f (with_board board s)
+board_done (Ok (b, now)) f s = succeeding (body.Board b) f (with_board now s)
 board_done (Err fault) f s = refusing (board_refusal fault) s
 
-abbrev pub performing : DapCommand → FollowUp → SessionState → Replied
-performing c f s = board_done (command_result c s.board) f s
+abbrev pub performing : BoardCommand → FollowUp → SessionState → Replied
+performing c f s = board_done (board_result c s.board) f s
 
 -- ---- a run that goes on
 
 -- the program is over then
 abbrev pub finish_done : Performed → ℕ → SessionState → Replied
-finish_done (Ok (b, board)) code s =
-    succeeding (body.Board b) (follow.Ended code) (program_over (with_board (after Interrupt board) s))
+finish_done (Ok (b, now)) code s =
+    succeeding (body.Board b) (follow.Ended code) (program_over (with_board (after Interrupt now) s))
 finish_done (Err fault) code s = refusing (board_refusal fault) s
 
 -- so is one whose run is held at its end
-abbrev pub resuming_from : Option End → DapCommand → SessionState → Replied
+abbrev pub resuming_from : Option End → BoardCommand → SessionState → Replied
 resuming_from None c s = performing c follow.Continued s
-resuming_from (Some how) c s = finish_done (command_result c s.board) (exit_code how) s
+resuming_from (Some how) c s = finish_done (board_result c s.board) (exit_code how) s
 
-abbrev pub resuming : DapCommand → SessionState → Replied
+abbrev pub resuming : BoardCommand → SessionState → Replied
 resuming c s = resuming_from (end_of s.settings.program) c s
 
 -- ---- the end of a program
@@ -92,7 +89,7 @@ and_ended r = record r { state = program_over r.state }
 
 -- a reset of the board ends the program
 abbrev pub resetting : SessionState → Replied
-resetting s = and_ended (performing command.BoardReset (end_follow s) s)
+resetting s = and_ended (performing board.BoardReset (end_follow s) s)
 
 abbrev pub terminating : SessionState → Replied
 terminating s = accepting (end_follow s) (program_over (with_board (after Interrupt s.board) s))
@@ -141,60 +138,67 @@ disassembling_from address instruction_offset count operands s =
 abbrev pub sources : Option Program → List Text
 sources program = option_to_list (option_map path_of program)
 
--- ---- the commands
+-- ---- the requests, a row for each
 
-abbrev pub commanding : DapCommand → SessionState → Replied
-commanding command.Initialize s = initializing no_events from_1 s
-commanding command.Attach s = refusing (codes "attach is not supported: launch a program") s
-commanding command.Disconnect s = disconnecting s
-commanding command.ConfigurationDone s = configuring s
-commanding (command.SetBreakpoints path lines) s = refusing (codes "unknown command") s
-commanding command.BoardReset s = resetting s
-commanding command.Continue s = resuming command.Continue s
-commanding (command.Step kind granularity) s = resuming (command.Step kind granularity) s
-commanding other s = performing other (follow_of other s) s
+-- an editor is told of what it changes by hand
+abbrev pub on_board : BoardCommand → SessionState → Replied
+on_board board.Attach s = refusing (codes "attach is not supported: launch a program") s
+on_board board.Disconnect s = disconnecting s
+on_board board.ConfigurationDone s = configuring s
+on_board board.Threads s = performing board.Threads follow.Nothing s
+on_board (board.StackTrace start levels) s = performing (board.StackTrace start levels) follow.Nothing s
+on_board board.Continue s = resuming board.Continue s
+on_board (board.Step kind granularity) s = resuming (board.Step kind granularity) s
+on_board board.Pause s = performing board.Pause (follow.Stopped (AtBoard ByPause)) s
+on_board (board.Source path) s = performing (board.Source path) follow.Nothing s
+on_board (board.DumpCell code) s = performing (board.DumpCell code) follow.Nothing s
+on_board board.DebugInfo s = performing board.DebugInfo follow.Nothing s
+on_board board.InspectVariables s = performing board.InspectVariables follow.Nothing s
+on_board (board.BoardSwitches value) s = performing (board.BoardSwitches value) (change_follow s) s
+on_board (board.BoardPress vector) s = performing (board.BoardPress vector) (change_follow s) s
+on_board (board.BoardType text) s = performing (board.BoardType text) (change_follow s) s
+on_board board.BoardReset s = resetting s
+on_board (board.BoardAliases has_aliases) s = performing (board.BoardAliases has_aliases) (change_follow s) s
 
--- those that have to do with values, memory and code
-abbrev pub editing_memory : EditorCommand → SessionState → Replied
-editing_memory (editor.ReadMemory address offset count) s = reading address offset count s
-editing_memory (editor.WriteMemory address offset bytes) s = writing address offset bytes s
-editing_memory (editor.Disassemble address offset instruction_offset count operands) s =
+abbrev pub on_source : Text → SourceCommand → SessionState → Replied
+on_source path (source.SetBreakpoints lines) s = setting_lines path lines s
+on_source path (source.BreakpointLocations first last) s = locating path first last s
+on_source path (source.GotoTargets line) s = finding_target path line s
+
+abbrev pub on_breakpoints : BreakpointsCommand → SessionState → Replied
+on_breakpoints (breakpoints.SetFunctionBreakpoints functions) s = setting_functions functions s
+on_breakpoints (breakpoints.SetExceptionBreakpoints filters) s =
+    accepting follow.Nothing (with_filters filters s)
+on_breakpoints (breakpoints.DataBreakpointInfo query) s = describing_data query s
+on_breakpoints (breakpoints.SetDataBreakpoints on_data) s = setting_data on_data s
+on_breakpoints (breakpoints.SetInstructionBreakpoints instructions) s = setting_instructions instructions s
+
+abbrev pub on_memory : MemoryCommand → SessionState → Replied
+on_memory (memory.ReadMemory address offset count) s = reading address offset count s
+on_memory (memory.WriteMemory address offset bytes) s = writing address offset bytes s
+on_memory (memory.Disassemble address offset instruction_offset count operands) s =
     disassembling_from (wrapped_at address offset) instruction_offset count operands s
-editing_memory (editor.GotoTargets path line) s = finding_target path line s
-editing_memory (editor.Goto target) s = going_to target s
-editing_memory (editor.Variables c) s = handling c s
-editing_memory other s = refusing (codes "unknown command") s
 
--- those of breakpoints
-abbrev pub editing_points : EditorCommand → SessionState → Replied
-editing_points (editor.SetBreakpoints path lines) s = setting_lines path lines s
-editing_points (editor.SetFunctionBreakpoints functions) s = setting_functions functions s
-editing_points (editor.DataBreakpointInfo query) s = describing_data query s
-editing_points (editor.SetDataBreakpoints breakpoints) s = setting_data breakpoints s
-editing_points (editor.SetInstructionBreakpoints breakpoints) s = setting_instructions breakpoints s
-editing_points (editor.BreakpointLocations path first last) s = locating path first last s
-editing_points other s = editing_memory other s
-
-abbrev pub editing : EditorCommand → SessionState → Replied
-editing (editor.Initialize supported numbering) s = initializing supported numbering s
-editing editor.Terminate s = terminating s
-editing (editor.SetExceptionBreakpoints filters) s = accepting follow.Nothing (with_filters filters s)
-editing editor.ExceptionInfo s = explaining (exception_of s.settings.program) s
-editing (editor.Evaluate expression context format) s = evaluating expression context format s
-editing editor.LoadedSources s = succeeding (body.Sources (sources s.settings.program)) follow.Nothing s
-editing other s = editing_points other s
-
-abbrev pub replying : RequestContent → SessionState → Replied
-replying (asked.Board c) s = commanding c s
-replying (asked.Editor c) s = editing c s
-replying (asked.Faulty f) s = refusing (request_refusal f) s
+-- Those that go back are for a session whose run is recorded.
+abbrev pub on_editor : EditorCommand → SessionState → Replied
+on_editor (editor.Initialize supported numbering) s = initializing supported numbering s
+on_editor editor.Terminate s = terminating s
+on_editor editor.ExceptionInfo s = explaining (exception_of s.settings.program) s
+on_editor (editor.Evaluate expression context format) s = evaluating expression context format s
+on_editor editor.LoadedSources s = succeeding (body.Sources (sources s.settings.program)) follow.Nothing s
+on_editor (editor.StepBack by) s = refusing (codes "unknown command") s
+on_editor editor.ReverseContinue s = refusing (codes "unknown command") s
+on_editor (editor.Goto target) s = going_to target s
+on_editor (editor.OnSource path c) s = on_source path c s
+on_editor (editor.Breakpoints c) s = on_breakpoints c s
+on_editor (editor.Memory c) s = on_memory c s
+on_editor (editor.Variables c) s = handling c s
 
 -- ---- objections
 
--- of the arguments that were read only how many instructions it is to a disassembly can be out of bounds
+-- of memory only how many instructions it is to a disassembly can be out of bounds
 abbrev pub bound_refusal : RequestContent → Text
-bound_refusal (asked.Editor (editor.Disassemble address offset instruction_offset count operands)) =
-    codes "bad arguments: instructionOffset"
+bound_refusal (asked.Editor (editor.Memory c)) = codes "bad arguments: instructionOffset"
 bound_refusal other = codes "bad arguments"
 
 abbrev pub objection : RequestContent → SessionState → Option Text
@@ -205,9 +209,11 @@ objection a s =
 -- ---- a request
 
 abbrev pub asking : RequestContent → Option FileText → SessionState → Turn
-asking (asked.Editor (editor.Launch l)) found s = launching l found s
-asking (asked.Editor (editor.Restart l)) found s = restarting l found s
-asking other found s = turn_of (replying other s)
+asking (asked.Load (load.Launch l)) found s = launching l found s
+asking (asked.Load (load.Restart l)) found s = restarting l found s
+asking (asked.Board c) found s = turn_of (on_board c s)
+asking (asked.Editor c) found s = turn_of (on_editor c s)
+asking (asked.Faulty f) found s = turn_of (refusing (request_refusal f) s)
 
 abbrev pub asking_unless : Option Text → RequestContent → Option FileText → SessionState → Turn
 asking_unless (Some text) a found s = turn_of (refusing text s)
@@ -223,7 +229,9 @@ turn a found s = and_noted a (asking_unless (objection a s) a found s)
 -- ---- the path whose text a request needs
 
 abbrev pub wanted_file : RequestContent → SessionState → Option Text
-wanted_file (asked.Editor (editor.Launch l)) s = Some l.program
-wanted_file (asked.Editor (editor.Restart None)) s = option_map path_of s.settings.program
-wanted_file (asked.Editor (editor.Restart (Some l))) s = Some l.program
-wanted_file other s = None
+wanted_file (asked.Load (load.Launch l)) s = Some l.program
+wanted_file (asked.Load (load.Restart None)) s = option_map path_of s.settings.program
+wanted_file (asked.Load (load.Restart (Some l))) s = Some l.program
+wanted_file (asked.Board c) s = None
+wanted_file (asked.Editor c) s = None
+wanted_file (asked.Faulty f) s = None

@@ -1,13 +1,17 @@
 //! The session.
-ghost use Rattle.std.specs.Prelude.{◌≡◌, true, IfOk, option_map};
-ghost use Rattle.dap_run.specs.Bounds.{is_bounded};
+ghost use Rattle.std.specs.Prelude.{◌≡◌, true, None, IfOk, option_map};
+ghost use Rattle.dap_run.specs.Bounds.{is_bounded, is_command_bounded};
 ghost use Rattle.dap_session.specs.States as states;
 ghost use Rattle.dap_session.specs.States.{SessionState, session_before_requests};
 ghost use Rattle.dap_session.specs.Turns.{turn_of, refusing};
 ghost use Rattle.dap_session.specs.Requests as requests;
-ghost use Rattle.dap_session.specs.Requests.{turn, asking, asking_unless, objection, replying};
-ghost use Rattle.dap_session.specs.Slices.{told_in, request_told};
-ghost use Rattle.dap_session.specs.Represents.{RepresentsSession, RepliesAs, TellsAs};
+ghost use Rattle.dap_session.specs.Requests.{turn, asking, asking_unless, objection};
+ghost use Rattle.dap_session.specs.Requests.{on_board, on_editor};
+ghost use Rattle.dap_prompt.specs.Inputs.{command_input, input_of};
+ghost use Rattle.dap_prompt.specs.Effects.{effect_by, effect_done};
+ghost use Rattle.dap_session.specs.Effects.{outcome_told, request_outcome};
+ghost use Rattle.dap_session.specs.Slices.{request_told};
+ghost use Rattle.dap_session.specs.Represents.{RepresentsSession, MakesAs, RepliesAs, TakesAs, TellsAs};
 
 mod breakpoints;
 mod evaluations;
@@ -25,10 +29,14 @@ use base_text::sequence::Sequence;
 use dap_launch::file::FileText;
 use dap_messages::message::Message;
 use dap_points::points::WantedBreakpoints;
-use dap_prompt::inputs::ends_question;
-use dap_requests::request::{EditorCommand, EditorRequest, RequestContent};
+use dap_prompt::inputs::{command_input, ends_question};
+use dap_prompt::outcome::{Effect, InputReply, RequestOutcome, outcome_of, without_input};
+use dap_requests::request::{
+    BoardCommand, EditorCommand, EditorRequest, LoadCommand, RequestContent,
+};
 use dap_run::life::NO_FILTERS;
 use dap_run::messages::{Messages, RequestId};
+use dap_run::refusals::request_refusal;
 use dap_run::reply::{Reply, refuse};
 use dap_slice::conditions::ConditionalBreakpoints;
 use lab_core::lab::Lab;
@@ -99,15 +107,16 @@ impl Session {
         })
     }
 
-    /// Answers a request: returns its response and the events behind it. `file` is what was found at the
-    /// path that the request needs (`wanted_file`). If memory runs out the session stays as it was.
+    /// Answers a request: returns its response and the events behind it, and what it did. `file` is what was
+    /// found at the path that the request needs (`wanted_file`). If memory runs out the session stays as it
+    /// was.
     pub fn take(
         &mut self,
         alloc: Global,
         request: EditorRequest,
         file: Option<FileText>,
-    ) -> Result<Sequence<Message>, AllocError>
-        ensures { TellsAs (request_told request file) self.old result self.new }
+    ) -> Result<RequestOutcome, AllocError>
+        ensures { TakesAs (request_outcome request file) self.old result self.new }
     {
         let (seq, command, asked) = request.into_parts();
         let caller = RequestId { seq, command };
@@ -115,6 +124,21 @@ impl Session {
         drop(asked);
         drop(file);
         result
+    }
+
+    /// The same where nobody asks what it did.
+    pub fn tell(
+        &mut self,
+        alloc: Global,
+        request: EditorRequest,
+        file: Option<FileText>,
+    ) -> Result<Sequence<Message>, AllocError>
+        ensures { TellsAs (request_told request file) self.old result self.new }
+    {
+        let outcome = self.take(alloc, request, file)?;
+        let RequestOutcome { messages, effect } = outcome;
+        drop(effect);
+        Ok(messages)
     }
 
     // Answers a request, after which a run that waits is tried again.
@@ -125,12 +149,13 @@ impl Session {
         caller: RequestId,
         asked: &RequestContent,
         file: &Option<FileText>,
-    ) -> Result<Sequence<Message>, AllocError>
-        ensures { TellsAs (λ s. told_in caller (turn asked.now file.now s)) self.old result self.new }
+    ) -> Result<RequestOutcome, AllocError>
+        ensures { TakesAs (λ s. outcome_told caller (turn asked.now file.now s)
+            (effect_done asked.now s.board)) self.old result self.new }
     {
-        let messages = self.answer_unless(alloc, caller, asked, file)?;
+        let outcome = self.answer_unless(alloc, caller, asked, file)?;
         self.note_answer(ends_question(asked));
-        Ok(messages)
+        Ok(outcome)
     }
 
     fn note_answer(&mut self, is_typed: bool)
@@ -150,9 +175,9 @@ impl Session {
         caller: RequestId,
         asked: &RequestContent,
         file: &Option<FileText>,
-    ) -> Result<Sequence<Message>, AllocError>
-        ensures { TellsAs (λ s. told_in caller
-            (asking_unless (objection asked.now s) asked.now file.now s))
+    ) -> Result<RequestOutcome, AllocError>
+        ensures { TakesAs (λ s. outcome_told caller
+            (asking_unless (objection asked.now s) asked.now file.now s) (effect_done asked.now s.board))
             self.old result self.new }
     {
         match self.objection(asked) {
@@ -167,12 +192,16 @@ impl Session {
         alloc: Global,
         caller: RequestId,
         text: &str,
-    ) -> Result<Sequence<Message>, AllocError>
-        ensures { TellsAs (λ s. told_in caller (turn_of (refusing text.now s))) self.old result self.new }
+    ) -> Result<RequestOutcome, AllocError>
+        ensures { TakesAs (λ s. outcome_told caller (turn_of (refusing text.now s)) Effect.Refused)
+            self.old result self.new }
     {
         let messages = Messages::new(alloc)?;
-        let reply = refuse(alloc, text)?;
-        Ok(messages.turn(caller, reply.outcome, reply.follow))
+        let Reply { outcome, follow } = refuse(alloc, text)?;
+        Ok(RequestOutcome {
+            messages: messages.turn(caller, outcome, follow),
+            effect: Effect::Refused,
+        })
     }
 
     // The reply that refuses a request with this text.
@@ -183,6 +212,14 @@ impl Session {
         Ok(reply)
     }
 
+    // The same for a request that may be an input.
+    fn refuse_input(&self, alloc: Global, text: &str) -> Result<InputReply, AllocError>
+        ensures { MakesAs (refusing text.now) (λ _. None) self.now result self.now }
+    {
+        let reply = self.refuse_with(alloc, text)?;
+        Ok(without_input(reply))
+    }
+
     // Answers a request to which there is no objection.
     fn answer(
         &mut self,
@@ -190,34 +227,59 @@ impl Session {
         caller: RequestId,
         asked: &RequestContent,
         file: &Option<FileText>,
-    ) -> Result<Sequence<Message>, AllocError>
+    ) -> Result<RequestOutcome, AllocError>
         requires { is_bounded asked.now ≡ true }
-        ensures { TellsAs (λ s. told_in caller (asking asked.now file.now s)) self.old result self.new }
+        ensures { TakesAs (λ s. outcome_told caller (asking asked.now file.now s)
+            (effect_done asked.now s.board)) self.old result self.new }
     {
         match asked {
-            RequestContent::Editor(EditorCommand::Launch(launch)) => self.launch(
-                alloc, caller, launch, file,
-            ),
-            RequestContent::Editor(EditorCommand::Restart(changed)) => self.restart(
-                alloc, caller, changed, file,
-            ),
-            _ => self.reply_to(alloc, caller, asked),
+            RequestContent::Load(LoadCommand::Launch(launch)) => {
+                self.launch(alloc, caller, launch, file)
+            }
+            RequestContent::Load(LoadCommand::Restart(changed)) => {
+                self.restart(alloc, caller, changed, file)
+            }
+            RequestContent::Board(command) => self.answer_board(alloc, caller, command),
+            RequestContent::Editor(command) => self.answer_editor(alloc, caller, command),
+            RequestContent::Faulty(fault) => {
+                let text = request_refusal(alloc, fault)?;
+                self.refuse(alloc, caller, text.as_str())
+            }
         }
     }
 
     // Room for the messages is made before anything changes.
-    fn reply_to(
+    #[tactic(auto, using(crate::proofs::EffectLemmas::made_taken))]
+    fn answer_board(
         &mut self,
         alloc: Global,
         caller: RequestId,
-        asked: &RequestContent,
-    ) -> Result<Sequence<Message>, AllocError>
-        requires { is_bounded asked.now ≡ true }
-        ensures { TellsAs (λ s. told_in caller (turn_of (replying asked.now s))) self.old result self.new }
+        command: &BoardCommand,
+    ) -> Result<RequestOutcome, AllocError>
+        ensures { TakesAs (λ s. outcome_told caller (turn_of (on_board command.now s))
+            (effect_by (command_input command.now))) self.old result self.new }
     {
         let messages = Messages::new(alloc)?;
-        let Reply { outcome, follow } = self.reply(alloc, asked)?;
-        Ok(messages.turn(caller, outcome, follow))
+        let input = command_input(alloc, command)?;
+        let reply = self.on_board(alloc, command)?;
+        Ok(outcome_of(messages, caller, InputReply { reply, input }))
+    }
+
+    // The same.
+    #[tactic(auto, using(crate::proofs::EffectLemmas::made_taken))]
+    fn answer_editor(
+        &mut self,
+        alloc: Global,
+        caller: RequestId,
+        command: &EditorCommand,
+    ) -> Result<RequestOutcome, AllocError>
+        requires { is_command_bounded command.now ≡ true }
+        ensures { TakesAs (λ s. outcome_told caller (turn_of (on_editor command.now s))
+            (effect_by (input_of (RequestContent.Editor command.now) s.board))) self.old result self.new }
+    {
+        let messages = Messages::new(alloc)?;
+        let made = self.on_editor(alloc, command)?;
+        Ok(outcome_of(messages, caller, made))
     }
 
     /// Whether `run` has something to do: a run goes on, and no slice since the last request found it waiting
@@ -237,15 +299,16 @@ impl Session {
             → option_map (λ path. path.now) result ≡ requests.wanted_file request.now.asked s }
     {
         match &request.asked {
-            RequestContent::Editor(EditorCommand::Launch(launch)) => Some(launch.program.as_str()),
-            RequestContent::Editor(EditorCommand::Restart(Some(launch))) => {
+            RequestContent::Load(LoadCommand::Launch(launch)) => Some(launch.program.as_str()),
+            RequestContent::Load(LoadCommand::Restart(Some(launch))) => {
                 Some(launch.program.as_str())
             }
-            RequestContent::Editor(EditorCommand::Restart(None)) => {
+            RequestContent::Load(LoadCommand::Restart(None)) => {
                 let program = self.settings.program.as_ref()?;
                 Some(program.launch.program.as_str())
             }
-            _ => None,
+            RequestContent::Board(_) | RequestContent::Editor(_) | RequestContent::Faulty(_) =>
+                None,
         }
     }
 

@@ -6,7 +6,9 @@ ghost use Rattle.dap_session.specs.States.{SessionState, with_points, with_condi
 ghost use Rattle.dap_points.specs.Points.{number_of, has_place, with_lines};
 ghost use Rattle.dap_breakpoints.specs.Reports.{points_where, labels_where};
 ghost use Rattle.dap_run.specs.Programs.{program_at};
-ghost use Rattle.dap_session.specs.Represents.{RepresentsSession, RepliesAs, ArmsWanted};
+ghost use Rattle.dap_run.specs.Bounds.{are_breakpoints_bounded};
+ghost use Rattle.dap_session.specs.Requests.{on_source, on_breakpoints};
+ghost use Rattle.dap_session.specs.Represents.{RepresentsSession, Replies, RepliesAs, ArmsWanted};
 
 use crate::session::Session;
 use base_text::sequence::Sequence;
@@ -18,16 +20,65 @@ use dap_messages::message::{EditorBody, PlacedBreakpoint};
 use dap_points::copies::{copy_functions, copy_source};
 use dap_points::placed::LABEL_NUMBER;
 use dap_points::points::SourceLines;
-use dap_requests::request::{FunctionBreakpoint, LineBreakpoint};
+use dap_requests::request::{
+    BreakpointsCommand, ExceptionFilters, FunctionBreakpoint, LineBreakpoint, SourceCommand,
+};
 use dap_run::messages::FollowUp;
 use dap_run::program::program_at;
-use dap_run::reply::{Reply, succeed};
+use dap_run::reply::{Reply, accept, succeed};
 use dap_slice::conditions::ConditionalBreakpoints;
 use std::alloc::{AllocError, Global};
 
 impl Session {
+    pub(super) fn on_source(
+        &mut self,
+        alloc: Global,
+        path: &Text,
+        command: &SourceCommand,
+    ) -> Result<Reply, AllocError>
+        ensures { RepliesAs (on_source path.now command.now) self.old result self.new }
+    {
+        match command {
+            SourceCommand::SetBreakpoints(lines) => self.set_lines(alloc, path, lines),
+            SourceCommand::BreakpointLocations { first, last } => {
+                self.locate(alloc, path, *first, *last)
+            }
+            SourceCommand::GotoTargets { line } => Ok(self.find_target(path, *line)),
+        }
+    }
+
+    pub(super) fn on_breakpoints(
+        &mut self,
+        alloc: Global,
+        command: &BreakpointsCommand,
+    ) -> Result<Reply, AllocError>
+        requires { are_breakpoints_bounded command.now ≡ true }
+        ensures { RepliesAs (on_breakpoints command.now) self.old result self.new }
+    {
+        match command {
+            BreakpointsCommand::SetFunctionBreakpoints(functions) => {
+                self.set_functions(alloc, functions)
+            }
+            BreakpointsCommand::SetExceptionBreakpoints(filters) => Ok(self.set_filters(*filters)),
+            BreakpointsCommand::DataBreakpointInfo(query) => self.describe_data(alloc, query),
+            BreakpointsCommand::SetDataBreakpoints(on_data) => self.set_data(alloc, on_data),
+            BreakpointsCommand::SetInstructionBreakpoints(instructions) => {
+                self.set_instructions(alloc, instructions)
+            }
+        }
+    }
+
+    fn set_filters(&mut self, filters: ExceptionFilters) -> Reply
+        ensures { (s : SessionState) → RepresentsSession self.old s
+            → Replies (on_breakpoints (BreakpointsCommand.SetExceptionBreakpoints filters) s)
+            result self.new }
+    {
+        self.settings.filters = filters;
+        accept(FollowUp::Nothing)
+    }
+
     // Sets the breakpoints of a source.
-    pub(super) fn set_lines(
+    fn set_lines(
         &mut self,
         alloc: Global,
         path: &Text,
@@ -125,7 +176,7 @@ impl Session {
     }
 
     // Sets the breakpoints at labels.
-    pub(super) fn set_functions(
+    fn set_functions(
         &mut self,
         alloc: Global,
         functions: &Sequence<FunctionBreakpoint>,
@@ -186,13 +237,7 @@ impl Session {
     }
 
     // The lines between two lines of a source that can have breakpoints.
-    pub(super) fn locate(
-        &self,
-        alloc: Global,
-        path: &Text,
-        first: u32,
-        last: u32,
-    ) -> Result<Reply, AllocError>
+    fn locate(&self, alloc: Global, path: &Text, first: u32, last: u32) -> Result<Reply, AllocError>
         ensures { RepliesAs (locating path.now first last) self.now result self.now }
     {
         let lines = match program_at(path.as_str(), &self.settings.program) {

@@ -5,7 +5,6 @@ ghost use Rattle.lab_core.specs.Board.{Board};
 ghost use Rattle.dap_history.specs.declared.input.Recorded.{Recorded};
 ghost use Rattle.dap_history.specs.Histories.{HistoryState, IsHistoryOf, KeepsHistory};
 ghost use Rattle.dap_history.specs.Runs.{board_at, after_input};
-ghost use Rattle.dap_prompt.specs.Inputs.{input_of};
 ghost use Rattle.dap_search.specs.Searches.{counts_hits};
 ghost use Rattle.dap_slice.specs.Stops.{back_ids};
 ghost use Rattle.dap_search.specs.Goals.{is_goal};
@@ -21,12 +20,9 @@ use base_text::sequence::Sequence;
 use dap_history::history::History;
 use dap_history::input::Input;
 use dap_history::replay::redo;
-use dap_prompt::inputs::input_of;
-use dap_requests::request::RequestContent;
 use dap_run::life::release_program;
 use dap_run::program::{Phase, Program};
-use dap_search::goal::Goal;
-use dap_search::scan::is_at_breakpoint;
+use dap_search::goal::{Goal, is_at_breakpoint};
 use dap_search::search::Search;
 use lab_core::run_state::RunState;
 use std::alloc::{AllocError, Global};
@@ -65,18 +61,6 @@ impl Session {
         ensures { (s : SessionState) → RepresentsSession self.now s → result ≡ s.settings.is_initialized }
     {
         self.settings.is_initialized
-    }
-
-    /// What a request changes by hand if it is carried out.
-    pub fn input_of(
-        &self,
-        alloc: Global,
-        asked: &RequestContent,
-    ) -> Result<Option<Input>, AllocError>
-        ensures { (s : SessionState) → RepresentsSession self.now s
-            → IfOk result (λ input. input ≡ input_of asked.now s.board) }
-    {
-        input_of(alloc, &self.lab, asked)
     }
 
     /// The number of live frames.

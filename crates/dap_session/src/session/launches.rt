@@ -5,9 +5,10 @@ ghost use Rattle.lab_core.specs.Labs.{RepresentsBoard};
 ghost use Rattle.dap_run.specs.Boards.{RepresentsSomeBoard};
 ghost use Rattle.dap_session.specs.Launches.{beginning_where, started_follow, installing, loading, launching};
 ghost use Rattle.dap_session.specs.Launches.{restarting, loading_file};
-ghost use Rattle.dap_session.specs.Slices.{told_by, told_in};
+ghost use Rattle.dap_session.specs.Effects.{outcome_told};
+ghost use Rattle.dap_session.specs.Slices.{told_by};
 ghost use Rattle.dap_session.specs.States.{SessionState, with_board, with_program, with_conditional};
-ghost use Rattle.dap_session.specs.Represents.{RepresentsSession, RepliesAs, Tells, TellsAs};
+ghost use Rattle.dap_session.specs.Represents.{RepresentsSession, RepliesAs, Takes, TakesAs};
 
 use crate::session::Session;
 use base_text::sequence::Sequence;
@@ -20,6 +21,7 @@ use dap_launch::load::{LoadFault, Loaded, load};
 use dap_launch::opening::{LoadReason, Opening, begun_follow, opening_messages};
 use dap_launch::program::{begin_if, begin_program, copy_launch};
 use dap_messages::message::Message;
+use dap_prompt::outcome::{Effect, RequestOutcome};
 use dap_requests::request::Launch;
 use dap_run::messages::{FollowUp, RequestId};
 use dap_run::program::{LoadedProgram, Phase, Program};
@@ -51,8 +53,9 @@ impl Session {
         caller: RequestId,
         launch: &Launch,
         file: &Option<FileText>,
-    ) -> Result<Sequence<Message>, AllocError>
-        ensures { TellsAs (λ s. told_in caller (launching launch.now file.now s)) self.old result self.new }
+    ) -> Result<RequestOutcome, AllocError>
+        ensures { TakesAs (λ s. outcome_told caller (launching launch.now file.now s) Effect.Loaded)
+            self.old result self.new }
     {
         if self.settings.program.is_some() {
             return self.refuse(alloc, caller, "launched already");
@@ -68,8 +71,9 @@ impl Session {
         caller: RequestId,
         changed: &Option<Launch>,
         file: &Option<FileText>,
-    ) -> Result<Sequence<Message>, AllocError>
-        ensures { TellsAs (λ s. told_in caller (restarting changed.now file.now s)) self.old result self.new }
+    ) -> Result<RequestOutcome, AllocError>
+        ensures { TakesAs (λ s. outcome_told caller (restarting changed.now file.now s) Effect.Loaded)
+            self.old result self.new }
     {
         let Some(program) = &self.settings.program else {
             return self.refuse(alloc, caller, "nothing is launched");
@@ -89,9 +93,9 @@ impl Session {
         opening: Opening,
         launch: Launch,
         file: &Option<FileText>,
-    ) -> Result<Sequence<Message>, AllocError>
-        ensures { TellsAs (λ s. told_in opening.caller (loading_file opening.cause launch file.now s))
-            self.old result self.new }
+    ) -> Result<RequestOutcome, AllocError>
+        ensures { TakesAs (λ s. outcome_told opening.caller
+            (loading_file opening.cause launch file.now s) Effect.Loaded) self.old result self.new }
     {
         match program_text(alloc, &launch, file)? {
             Ok(text) => self.load(alloc, opening, launch, &text),
@@ -106,9 +110,9 @@ impl Session {
         opening: Opening,
         launch: Launch,
         text: &Text,
-    ) -> Result<Sequence<Message>, AllocError>
-        ensures { TellsAs (λ s. told_in opening.caller (loading opening.cause launch text.now s))
-            self.old result self.new }
+    ) -> Result<RequestOutcome, AllocError>
+        ensures { TakesAs (λ s. outcome_told opening.caller
+            (loading opening.cause launch text.now s) Effect.Loaded) self.old result self.new }
     {
         match load(alloc, &launch, text) {
             Ok(Loaded { lab, start }) => {
@@ -120,7 +124,19 @@ impl Session {
                 self.install(alloc, opening, LoadedProgram { program, lab })
             }
             Err(LoadFault::OutOfMemory) => Err(AllocError),
-            Err(fault) => { failure(alloc, opening.caller, &launch.program, text.as_str(), fault) }
+            Err(fault) => {
+                let messages = failure(
+                    alloc,
+                    opening.caller,
+                    &launch.program,
+                    text.as_str(),
+                    fault,
+                )?;
+                Ok(RequestOutcome {
+                    messages,
+                    effect: Effect::Refused,
+                })
+            }
         }
     }
 
@@ -180,12 +196,13 @@ impl Session {
         alloc: Global,
         opening: Opening,
         mut loaded: LoadedProgram,
-    ) -> Result<Sequence<Message>, AllocError>
+    ) -> Result<RequestOutcome, AllocError>
         requires { RepresentsSomeBoard loaded.lab }
         ensures installed { (s : SessionState) (b : Board) → RepresentsSession self.old s
             → RepresentsBoard loaded.lab b
-            → IfOk result (λ messages. Tells
-            (told_in opening.caller (installing opening.cause loaded.program b s)) messages self.new) }
+            → IfOk result (λ outcome. Takes
+            (outcome_told opening.caller (installing opening.cause loaded.program b s) Effect.Loaded)
+            outcome self.new) }
         ensures err { OnErr result (self.new ≡ self.old) }
     {
         let messages = self.opening_messages(alloc, opening, &loaded)?;
@@ -197,6 +214,9 @@ impl Session {
         )?;
         begin_if(alloc, &mut loaded, self.settings.is_configured)?;
         self.put(loaded, points);
-        Ok(messages)
+        Ok(RequestOutcome {
+            messages,
+            effect: Effect::Loaded,
+        })
     }
 }

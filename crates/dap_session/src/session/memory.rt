@@ -3,17 +3,23 @@ ghost use Rattle.std.specs.Prelude.{◌≡◌, true, IfOk};
 ghost use Rattle.dap_run.specs.Bounds as bounds;
 ghost use Rattle.dap_session.specs.Memory.{first_line, memory_at, is_stopped};
 ghost use Rattle.dap_session.specs.Memory.{writing_from, writing};
-ghost use Rattle.dap_session.specs.Requests.{reading, disassembling_from, editing_memory};
+ghost use Rattle.dap_session.specs.Requests.{reading, disassembling_from, on_memory};
 ghost use Rattle.dap_session.specs.States.{SessionState};
-ghost use Rattle.dap_session.specs.Represents.{RepresentsSession, RepliesAs};
+ghost use Rattle.dap_prompt.specs.Inputs.{input_of};
+ghost use Rattle.dap_requests.specs.declared.request.RequestContent.{RequestContent};
+ghost use Rattle.dap_requests.specs.declared.request.EditorCommand.{EditorCommand};
+ghost use Rattle.dap_values.specs.Distances.{address_at};
+ghost use Rattle.dap_session.specs.Represents.{RepresentsSession, MakesAs, RepliesAs};
 
 use crate::session::Session;
 use base_text::sequence::Bytes;
 use dap_disassembly::before::before_instructions;
 use dap_disassembly::disassembly::instructions;
 use dap_messages::message::{EditorBody, OperandStyle};
+use dap_prompt::inputs::bytes_input;
+use dap_prompt::outcome::{InputReply, without_input};
 use dap_requests::offset::SignedOffset;
-use dap_requests::request::{EditorCommand, RequestContent};
+use dap_requests::request::MemoryCommand;
 use dap_run::messages::FollowUp;
 use dap_run::refusals::board_refusal;
 use dap_run::reply::{Reply, succeed};
@@ -142,43 +148,51 @@ impl Session {
         self.write_at(alloc, address_at(address, offset), bytes)
     }
 
-    // The commands that have to do with values, memory and code.
-    pub(super) fn edit_memory(
+    pub(super) fn on_memory(
         &mut self,
         alloc: Global,
-        command: &EditorCommand,
-    ) -> Result<Reply, AllocError>
-        requires { bounds.is_bounded (RequestContent.Editor command.now) ≡ true }
-        ensures { RepliesAs (editing_memory command.now) self.old result self.new }
+        command: &MemoryCommand,
+    ) -> Result<InputReply, AllocError>
+        requires { bounds.is_memory_bounded command.now ≡ true }
+        ensures { MakesAs (on_memory command.now)
+            (λ s. input_of (RequestContent.Editor (EditorCommand.Memory command.now)) s.board)
+            self.old result self.new }
     {
         match command {
-            EditorCommand::ReadMemory {
+            MemoryCommand::ReadMemory {
                 address,
                 offset,
                 count,
-            } => self.read_memory(alloc, *address, *offset, *count),
-            EditorCommand::WriteMemory {
+            } => {
+                let reply = self.read_memory(alloc, *address, *offset, *count)?;
+                Ok(without_input(reply))
+            }
+            MemoryCommand::WriteMemory {
                 address,
                 offset,
                 bytes,
-            } => self.write_memory(alloc, *address, *offset, bytes),
-            EditorCommand::Disassemble {
+            } => {
+                let input = bytes_input(alloc, *address, *offset, bytes)?;
+                let reply = self.write_memory(alloc, *address, *offset, bytes)?;
+                Ok(InputReply { reply, input })
+            }
+            MemoryCommand::Disassemble {
                 address,
                 offset,
                 instruction_offset,
                 instruction_count,
                 operands,
-            } => self.disassemble(
-                alloc,
-                wrapped_at(*address, *offset),
-                *instruction_offset,
-                *instruction_count,
-                *operands,
-            ),
-            EditorCommand::GotoTargets { path, line } => Ok(self.find_target(path, *line)),
-            EditorCommand::Goto { target } => self.go_to(alloc, *target),
-            EditorCommand::Variables(command) => self.handle(alloc, command),
-            _ => self.refuse_with(alloc, "unknown command"),
+            } => {
+                let from = wrapped_at(*address, *offset);
+                let reply = self.disassemble(
+                    alloc,
+                    from,
+                    *instruction_offset,
+                    *instruction_count,
+                    *operands,
+                )?;
+                Ok(without_input(reply))
+            }
         }
     }
 }

@@ -1,33 +1,32 @@
 //! Requests, but for those that have a file of their own.
 ghost use Rattle.std.specs.Prelude.{◌≡◌, IfOk, option_map, true, None, ◌≢◌};
 ghost use Rattle.dap_run.specs.Refusals.{board_refusal};
-ghost use Rattle.dap_board.specs.Commands.{IsPerformable, command_result};
-ghost use Rattle.dap_run.specs.Boards.{after};
-ghost use Rattle.dap_run.specs.Bounds.{is_command_bounded, is_bounded};
+ghost use Rattle.dap_run.specs.Boards.{after, board_result};
+ghost use Rattle.dap_run.specs.Bounds.{is_bounded, is_command_bounded};
 ghost use Rattle.dap_session.specs.States.{SessionState, with_board, program_over};
 ghost use Rattle.dap_session.specs.Turns.{change_follow};
-ghost use Rattle.dap_session.specs.Requests.{bound_refusal, objection, follow_of, performing, resuming};
+ghost use Rattle.dap_session.specs.Requests.{bound_refusal, objection, performing, resuming};
 ghost use Rattle.dap_session.specs.Requests.{finish_done, resetting};
 ghost use Rattle.dap_session.specs.Requests.{terminating, initializing, configuring, disconnecting};
-ghost use Rattle.dap_session.specs.Requests.{commanding, editing_points, editing, replying, end_follow};
-ghost use Rattle.dap_session.specs.Represents.{RepresentsSession, RepliesAs, Replies};
+ghost use Rattle.dap_session.specs.Requests.{on_board, on_editor, end_follow};
+ghost use Rattle.dap_prompt.specs.Inputs.{input_of};
+ghost use Rattle.dap_session.specs.Represents.{RepresentsSession, MakesAs, RepliesAs, Replies};
 
 use crate::session::Session;
-use crate::settings::NO_EVENTS;
 use base_text::sequence::Sequence;
 use dap_answers::answer::StopReason;
-use dap_board::perform::perform;
 use dap_messages::message::{EditorBody, EditorOutcome, EditorStop, Numbering};
-use dap_messages::numbering::FROM_1;
-use dap_requests::request::{EditorCommand, ExceptionFilters, RequestContent, SupportedEvents};
-use dap_run::bounds::{is_bounded, opens};
+use dap_prompt::outcome::{InputReply, without_input};
+use dap_requests::request::{BoardCommand, EditorCommand, RequestContent, SupportedEvents};
+use dap_requests::traits::traits_of;
+use dap_run::board::perform_command;
+use dap_run::bounds::is_bounded;
 use dap_run::change::change_surely;
 use dap_run::end::exit_code;
 use dap_run::life::{end_of, end_program, exception_of, is_live};
 use dap_run::messages::FollowUp;
-use dap_run::refusals::{board_refusal, request_refusal};
+use dap_run::refusals::board_refusal;
 use dap_run::reply::{Reply, accept, refuse, succeed};
-use dap_talk::command::DapCommand;
 use lab_core::event::Event;
 use lab_core::fault::EventFault;
 use std::alloc::{AllocError, Global};
@@ -50,9 +49,7 @@ fn bound_refusal(asked: &RequestContent) -> &'static str
     ensures { result.now ≡ bound_refusal asked.now }
 {
     match asked {
-        RequestContent::Editor(EditorCommand::Disassemble { .. }) => {
-            "bad arguments: instructionOffset"
-        }
+        RequestContent::Editor(EditorCommand::Memory(_)) => "bad arguments: instructionOffset",
         _ => "bad arguments",
     }
 }
@@ -64,31 +61,13 @@ impl Session {
             → option_map (λ text. text.now) result ≡ objection asked.now s }
         ensures fits { result ≡ None → is_bounded asked.now ≡ true }
     {
-        if !(self.settings.is_initialized || opens(asked)) {
+        if !(self.settings.is_initialized || traits_of(asked).opens) {
             return Some("not initialized");
         }
         if !is_bounded(asked) {
             return Some(bound_refusal(asked));
         }
         None
-    }
-
-    pub(super) fn reply(
-        &mut self,
-        alloc: Global,
-        asked: &RequestContent,
-    ) -> Result<Reply, AllocError>
-        requires { is_bounded asked.now ≡ true }
-        ensures { RepliesAs (replying asked.now) self.old result self.new }
-    {
-        match asked {
-            RequestContent::Board(command) => self.command(alloc, command),
-            RequestContent::Editor(command) => self.edit(alloc, command),
-            RequestContent::Faulty(fault) => {
-                let text = request_refusal(alloc, fault)?;
-                self.refuse_with(alloc, text.as_str())
-            }
-        }
     }
 
     // What follows a change by hand.
@@ -102,40 +81,23 @@ impl Session {
         }
     }
 
-    // The event behind the response to a command.
-    fn follow_of(&self, command: &DapCommand) -> FollowUp
-        ensures { (s : SessionState) → RepresentsSession self.now s → result ≡ follow_of command.now s }
-    {
-        match command {
-            DapCommand::Pause => FollowUp::Stopped(EditorStop::Board(StopReason::Pause)),
-            DapCommand::SetVariable { .. }
-            | DapCommand::BoardSwitches { .. }
-            | DapCommand::BoardPress { .. }
-            | DapCommand::BoardType { .. }
-            | DapCommand::BoardAliases { .. } => self.change_follow(),
-            _ => FollowUp::Nothing,
-        }
-    }
-
     // Performs a command of the board. `follow` says which event comes behind the response.
     pub(super) fn perform(
         &mut self,
         alloc: Global,
-        command: &DapCommand,
+        command: &BoardCommand,
         follow: FollowUp,
     ) -> Result<Reply, AllocError>
-        requires { IsPerformable command.now }
         ensures { RepliesAs (performing command.now follow) self.old result self.new }
     {
-        match perform(alloc, &mut self.lab, command) {
+        match perform_command(alloc, &mut self.lab, command) {
             Ok(body) => Ok(succeed(EditorBody::Board(body), follow)),
             Err(fault) => refuse_for(alloc, fault),
         }
     }
 
     // Lets the run go on. A program whose run is held at its end is over then.
-    fn resume(&mut self, alloc: Global, command: &DapCommand) -> Result<Reply, AllocError>
-        requires { IsPerformable command.now }
+    fn resume(&mut self, alloc: Global, command: &BoardCommand) -> Result<Reply, AllocError>
         ensures { RepliesAs (resuming command.now) self.old result self.new }
     {
         match end_of(&self.settings.program) {
@@ -145,12 +107,16 @@ impl Session {
     }
 
     // Performs a command that lets a run go on, and ends the program.
-    fn finish(&mut self, alloc: Global, command: &DapCommand, code: u8) -> Result<Reply, AllocError>
-        requires { IsPerformable command.now }
-        ensures { RepliesAs (λ s. finish_done (command_result command.now s.board) code s)
+    fn finish(
+        &mut self,
+        alloc: Global,
+        command: &BoardCommand,
+        code: u8,
+    ) -> Result<Reply, AllocError>
+        ensures { RepliesAs (λ s. finish_done (board_result command.now s.board) code s)
             self.old result self.new }
     {
-        match perform(alloc, &mut self.lab, command) {
+        match perform_command(alloc, &mut self.lab, command) {
             Ok(body) => {
                 self.end_run();
                 Ok(succeed(EditorBody::Board(body), FollowUp::Ended(code)))
@@ -169,55 +135,69 @@ impl Session {
     }
 
     // What ended the run that is held at its end.
-    fn explain(&self, alloc: Global) -> Result<Reply, AllocError>
-        ensures { RepliesAs (editing EditorCommand.ExceptionInfo) self.now result self.now }
+    fn explain(&self, alloc: Global) -> Result<InputReply, AllocError>
+        ensures { MakesAs (on_editor EditorCommand.ExceptionInfo) (λ _. None) self.now result self.now }
     {
         match exception_of(&self.settings.program) {
-            None => self.refuse_with(alloc, "the program is stopped at no exception"),
-            Some(undefined) => Ok(succeed(EditorBody::Exception(undefined), FollowUp::Nothing)),
+            None => self.refuse_input(alloc, "the program is stopped at no exception"),
+            Some(undefined) => {
+                let reply = succeed(EditorBody::Exception(undefined), FollowUp::Nothing);
+                Ok(without_input(reply))
+            }
         }
     }
 
-    // Performs a command of the board that lets no run go on.
-    fn perform_by_hand(&mut self, alloc: Global, command: &DapCommand) -> Result<Reply, AllocError>
-        requires { IsPerformable command.now }
-        ensures { RepliesAs (λ s. performing command.now (follow_of command.now s) s)
-            self.old result self.new }
-    {
-        let follow = self.follow_of(command);
-        self.perform(alloc, command, follow)
-    }
-
-    fn command(&mut self, alloc: Global, command: &DapCommand) -> Result<Reply, AllocError>
-        requires { is_command_bounded command.now ≡ true }
-        ensures { RepliesAs (commanding command.now) self.old result self.new }
+    pub(super) fn on_board(
+        &mut self,
+        alloc: Global,
+        command: &BoardCommand,
+    ) -> Result<Reply, AllocError>
+        ensures { RepliesAs (on_board command.now) self.old result self.new }
     {
         match command {
-            DapCommand::Initialize => self.initialize(alloc, NO_EVENTS, FROM_1),
-            DapCommand::Attach => self.refuse_with(
+            BoardCommand::Attach => self.refuse_with(
                 alloc,
                 "attach is not supported: launch a program",
             ),
-            DapCommand::Disconnect => Ok(self.disconnect()),
-            DapCommand::ConfigurationDone => self.configure(alloc),
-            DapCommand::SetBreakpoints { .. } => self.refuse_with(alloc, "unknown command"),
-            DapCommand::BoardReset => self.reset(alloc),
-            DapCommand::Continue | DapCommand::Step { .. } => self.resume(alloc, command),
-            _ => self.perform_by_hand(alloc, command),
+            BoardCommand::Disconnect => Ok(self.disconnect()),
+            BoardCommand::ConfigurationDone => self.configure(alloc),
+            BoardCommand::BoardReset => self.reset(alloc),
+            BoardCommand::Continue | BoardCommand::Step { .. } => self.resume(alloc, command),
+            BoardCommand::Pause => {
+                let stop = EditorStop::Board(StopReason::Pause);
+                self.perform(alloc, command, FollowUp::Stopped(stop))
+            }
+            BoardCommand::BoardSwitches(_)
+            | BoardCommand::BoardPress(_)
+            | BoardCommand::BoardType(_)
+            | BoardCommand::BoardAliases(_) => {
+                let follow = self.change_follow();
+                self.perform(alloc, command, follow)
+            }
+            BoardCommand::Threads
+            | BoardCommand::StackTrace { .. }
+            | BoardCommand::Source(_)
+            | BoardCommand::DumpCell(_)
+            | BoardCommand::DebugInfo
+            | BoardCommand::InspectVariables => self.perform(alloc, command, FollowUp::Nothing),
         }
     }
 
-    fn edit(&mut self, alloc: Global, command: &EditorCommand) -> Result<Reply, AllocError>
-        requires { is_bounded (RequestContent.Editor command.now) ≡ true }
-        ensures { RepliesAs (editing command.now) self.old result self.new }
+    pub(super) fn on_editor(
+        &mut self,
+        alloc: Global,
+        command: &EditorCommand,
+    ) -> Result<InputReply, AllocError>
+        requires { is_command_bounded command.now ≡ true }
+        ensures { MakesAs (on_editor command.now) (λ s. input_of (RequestContent.Editor command.now) s.board)
+            self.old result self.new }
     {
         match command {
             EditorCommand::Initialize {
                 supported,
                 numbering,
             } => self.initialize(alloc, *supported, *numbering),
-            EditorCommand::Terminate => Ok(self.terminate()),
-            EditorCommand::SetExceptionBreakpoints(filters) => Ok(self.set_filters(*filters)),
+            EditorCommand::Terminate => Ok(without_input(self.terminate())),
             EditorCommand::ExceptionInfo => self.explain(alloc),
             EditorCommand::Evaluate {
                 expression,
@@ -225,28 +205,20 @@ impl Session {
                 format,
             } => self.evaluate(alloc, expression.as_str(), *context, *format),
             EditorCommand::LoadedSources => self.list_sources(alloc),
-            _ => self.edit_points(alloc, command),
-        }
-    }
-
-    fn edit_points(&mut self, alloc: Global, command: &EditorCommand) -> Result<Reply, AllocError>
-        requires { is_bounded (RequestContent.Editor command.now) ≡ true }
-        ensures { RepliesAs (editing_points command.now) self.old result self.new }
-    {
-        match command {
-            EditorCommand::SetBreakpoints { path, lines } => self.set_lines(alloc, path, lines),
-            EditorCommand::SetFunctionBreakpoints(functions) => {
-                self.set_functions(alloc, functions)
+            EditorCommand::StepBack(_) | EditorCommand::ReverseContinue => {
+                self.refuse_input(alloc, "unknown command")
             }
-            EditorCommand::DataBreakpointInfo(query) => self.describe_data(alloc, query),
-            EditorCommand::SetDataBreakpoints(on_data) => self.set_data(alloc, on_data),
-            EditorCommand::SetInstructionBreakpoints(instructions) => {
-                self.set_instructions(alloc, instructions)
+            EditorCommand::Goto { target } => self.go_to(alloc, *target),
+            EditorCommand::OnSource { path, command } => {
+                let reply = self.on_source(alloc, path, command)?;
+                Ok(without_input(reply))
             }
-            EditorCommand::BreakpointLocations { path, first, last } => {
-                self.locate(alloc, path, *first, *last)
+            EditorCommand::Breakpoints(command) => {
+                let reply = self.on_breakpoints(alloc, command)?;
+                Ok(without_input(reply))
             }
-            _ => self.edit_memory(alloc, command),
+            EditorCommand::Memory(command) => self.on_memory(alloc, command),
+            EditorCommand::Variables(command) => self.handle(alloc, command),
         }
     }
 
@@ -255,23 +227,16 @@ impl Session {
         alloc: Global,
         supported: SupportedEvents,
         numbering: Numbering,
-    ) -> Result<Reply, AllocError>
-        ensures { RepliesAs (initializing supported numbering) self.old result self.new }
+    ) -> Result<InputReply, AllocError>
+        ensures { MakesAs (initializing supported numbering) (λ _. None) self.old result self.new }
     {
         if self.settings.is_initialized {
-            return self.refuse_with(alloc, "initialized already");
+            return self.refuse_input(alloc, "initialized already");
         }
         self.settings.is_initialized = true;
         self.settings.supported = supported;
-        Ok(succeed(EditorBody::Capabilities(numbering), FollowUp::Nothing))
-    }
-
-    fn set_filters(&mut self, filters: ExceptionFilters) -> Reply
-        ensures { (s : SessionState) → RepresentsSession self.old s
-            → Replies (editing (EditorCommand.SetExceptionBreakpoints filters) s) result self.new }
-    {
-        self.settings.filters = filters;
-        accept(FollowUp::Nothing)
+        let reply = succeed(EditorBody::Capabilities(numbering), FollowUp::Nothing);
+        Ok(without_input(reply))
     }
 
     fn disconnect(&mut self) -> Reply
@@ -305,7 +270,7 @@ impl Session {
         ensures { RepliesAs resetting self.old result self.new }
     {
         let follow = self.end_follow();
-        let reply = self.perform(alloc, &DapCommand::BoardReset, follow)?;
+        let reply = self.perform(alloc, &BoardCommand::BoardReset, follow)?;
         end_program(&mut self.settings.program);
         Ok(reply)
     }
@@ -319,13 +284,14 @@ impl Session {
         accept(follow)
     }
 
-    fn list_sources(&self, alloc: Global) -> Result<Reply, AllocError>
-        ensures { RepliesAs (editing EditorCommand.LoadedSources) self.now result self.now }
+    fn list_sources(&self, alloc: Global) -> Result<InputReply, AllocError>
+        ensures { MakesAs (on_editor EditorCommand.LoadedSources) (λ _. None) self.now result self.now }
     {
         let mut paths = Sequence::new(alloc);
         if let Some(program) = &self.settings.program {
             paths.push(program.launch.program.clone()?)?;
         }
-        Ok(succeed(EditorBody::Sources(paths), FollowUp::Nothing))
+        let reply = succeed(EditorBody::Sources(paths), FollowUp::Nothing);
+        Ok(without_input(reply))
     }
 }

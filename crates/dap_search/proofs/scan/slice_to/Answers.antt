@@ -1,4 +1,4 @@
-use Rattle.dap_search.proofs.SeekLemmas.{slice_to_changes}
+use Rattle.dap_search.proofs.FindLemmas.{slice_to_changes}
 use Rattle.dap_search.proofs.scan.slice_to.Goals as goal
 
 pub returns-clause-rest : goal.returns-clause-rest

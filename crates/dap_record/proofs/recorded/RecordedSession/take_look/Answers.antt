@@ -6,10 +6,10 @@ use Rattle.dap_record.proofs.recorded.RecordedSession.take_look.Goals as goal
 
 pub invariant_of-self : goal.invariant_of-self
 invariant_of-self c =
-    some_looked c.args.request.asked c.args.file (caller_of c.args.request) _ c.take.new.self c.take.result
-    c.requires c.self.invariant c.take.ensures
+    some_looked c.args.request.asked c.args.file (caller_of c.args.request) _ c.tell.new.self c.tell.result
+    c.requires c.self.invariant c.tell.ensures
 
 pub returns : goal.returns
 returns c = λ v represents.
-    told_looking c.args.request.asked c.args.file (caller_of c.args.request) v _ c.take.new.self c.take.result
-    c.requires (subst (λ x. RepresentsRecorded x v) (sym c.self.view_is) represents) c.take.ensures
+    told_looking c.args.request.asked c.args.file (caller_of c.args.request) v _ c.tell.new.self c.tell.result
+    c.requires (subst (λ x. RepresentsRecorded x v) (sym c.self.view_is) represents) c.tell.ensures

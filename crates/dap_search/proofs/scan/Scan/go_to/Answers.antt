@@ -2,7 +2,7 @@ use Rattle.std.proofs.Common.{◌∙◌, ◌+◌, ap, arith}
 use Rattle.dap_history.specs.Logs.{Ascends, later_than}
 use Rattle.dap_history.proofs.LogLemmas.{ascends_from}
 use Rattle.dap_history.proofs.ReplayLemmas.{in_turn}
-use Rattle.dap_search.proofs.SeekLemmas.{ascends-later_than, later_later}
+use Rattle.dap_search.proofs.FindLemmas.{ascends-later_than, later_later}
 use Rattle.dap_search.proofs.scan.Scan.go_to.Goals as goal
 
 pub turn-requires-clause-later : goal.turn-requires-clause-later
@@ -26,8 +26,9 @@ loop-self-preserved c =
       rest = c.later-rest-in-loop-self.ensures ∙ ap (later_than c.turn.new.self.at) inv.rest
           ∙ later_later c.turn.new.self.at c.loop-self.self.at log (omega (arith, on));
       within = c.in_ok-turn.ensures.at.1;
-      scans = λ start now target before points scan.
-          c.in_ok-turn.ensures.ok start now log target before c.requires.ascends inv.rest points
-          (inv.scans start now target before points scan);
+      scans = λ start now target low points scan.
+          c.in_ok-turn.ensures.ok start now log target low c.requires.ascends inv.rest points
+          (inv.scans start now target low points scan);
+      kind = c.turn.ensures.kind ∙ inv.kind;
       changes = in_turn _ _ _ inv.changes c.turn.ensures.rest;
     }

@@ -1,4 +1,4 @@
-use Rattle.std.proofs.Common.{◌≡◌, ◌∙◌, List, sym, ap, subst, Some}
+use Rattle.std.proofs.Common.{◌≡◌, ◌∙◌, List, refl, sym, ap, subst, Some}
 use Rattle.lab_core.specs.Labs.{RepresentsBoard}
 use Rattle.dap_session.specs.declared.settings.SessionSettings.{SessionSettings}
 use Rattle.dap_run.specs.declared.program.Program.{Program}
@@ -27,9 +27,12 @@ returns-clause-installed c = λ s b represents on.
     let R : List ConditionalBreakpoint → Program → Type 0 =
     λ ps q. RepresentsSession c.put.new.self
     (with_board (board_if s.settings.is_configured p (program_board p s.settings.points b))
-    (with_conditional ps (with_program (Some q) s))) in (
-      c.in_ok-messages.ensures s b represents on,
-      subst (λ ps. R ps program) armed.0
+    (with_conditional ps (with_program (Some q) s))) in
+    record {
+      messages = c.in_ok-messages.ensures s b represents on;
+      effect = refl;
+      represents =
+          subst (λ ps. R ps program) armed.0
           (subst (R points)
-          (is ∙ ap (λ (t : SessionSettings). begun_if t.is_configured p) viewed.settings) put),
-    )
+          (is ∙ ap (λ (t : SessionSettings). begun_if t.is_configured p) viewed.settings) put);
+    }
