@@ -1,5 +1,6 @@
 // A bell, which rings for each character 07 that a program prints. It is seen to ring too, and can be silent.
 import {make, readSetting, saveSetting} from "./dom.js";
+import {t} from "./language.js";
 import {drawing} from "./segments.js";
 import {on} from "./signals.js";
 
@@ -37,7 +38,7 @@ on("message", ({header, content}) => {
 
 export function bell() {
     const picture = drawing("svg", {viewBox: "0 0 24 24", class: "bell", "aria-hidden": "true"}, ...shape());
-    const said = make("p", {role: "status"}, "It hasn\u2019t rung"), isLoud = readSetting("silent bell") !== true;
+    const said = make("p", {role: "status"}, t("It hasn\u2019t rung")), isLoud = readSetting("silent bell") !== true;
     const box = make("input", {type: "checkbox", checked: isLoud});
     const state = {count: 0, last: -Infinity, timer: 0};
     box.onchange = () => saveSetting("silent bell", box.checked ? null : true);
@@ -54,12 +55,12 @@ export function bell() {
     // what is said comes once for several rings
     const quiet = () => {
         picture.classList.remove("rings");
-        said.textContent = state.count === 1 ? "It has rung once" : `It has rung ${state.count} times`;
+        said.textContent = state.count === 1 ? t("It has rung once") : t("It has rung {0} times", [state.count]);
     };
     listeners.add(ring);
     const close = () => {
         listeners.delete(ring);
         clearTimeout(state.timer);
     };
-    return {element: make("div", {className: "bell-device"}, picture, said, make("label", {}, box, "Sound")), close};
+    return {element: make("div", {className: "bell-device"}, picture, said, make("label", {}, box, t("Sound"))), close};
 }

@@ -2,6 +2,7 @@
 // is hidden.
 import {board} from "./board.js";
 import {make} from "./dom.js";
+import {t} from "./language.js";
 import {Refusal, isOpen} from "./line.js";
 import {ask} from "./presses.js";
 
@@ -11,18 +12,18 @@ const MOST_LOST = 20;
 const mayTick = () => isOpen() && !document.hidden && board.running === true && !board.stopped;
 
 export function clock({vector, rate}) {
-    const button = make("button", {type: "button", "aria-pressed": "false"}, "Start"), count = make("output", {"aria-live": "off"});
+    const button = make("button", {type: "button", "aria-pressed": "false"}, t("Start")), count = make("output", {"aria-live": "off"});
     const said = make("p", {className: "note", role: "status"}), hand = make("span", {className: "hand", "aria-hidden": "true"});
     const state = {timer: 0, ticks: 0, lost: 0, isUnder: false};
     const stop = text => {
         clearInterval(state.timer);
         Object.assign(state, {timer: 0, lost: 0});
         button.setAttribute("aria-pressed", "false");
-        button.textContent = "Start";
+        button.textContent = t("Start");
         said.textContent = text;
     };
     const show = () => {
-        count.textContent = `${state.ticks} ${state.ticks === 1 ? "tick" : "ticks"}`;
+        count.textContent = state.ticks === 1 ? t("1 tick") : t("{0} ticks", [state.ticks]);
         hand.classList.toggle("tock", state.ticks % 2 === 1);
     };
     const tick = async () => {
@@ -30,7 +31,7 @@ export function clock({vector, rate}) {
         state.isUnder = true;
         try {
             await press(state, vector);
-            if (state.timer && state.lost > MOST_LOST) stop(`The program doesn\u2019t take RST ${vector}: the clock has stopped`);
+            if (state.timer && state.lost > MOST_LOST) stop(t("The program doesn\u2019t take RST {0}: the clock has stopped", [vector]));
             show();
         } finally {
             state.isUnder = false;
@@ -41,7 +42,7 @@ export function clock({vector, rate}) {
         stop("");
         state.timer = setInterval(tick, 1000 / rate);
         button.setAttribute("aria-pressed", "true");
-        button.textContent = "Stop";
+        button.textContent = t("Stop");
         tick();
     };
     show();

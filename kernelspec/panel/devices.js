@@ -6,10 +6,12 @@ import {clock} from "./clock.js";
 import {byId, make, readSetting, saveSetting} from "./dom.js";
 import {beginFollowing, followed, lookAnew, seenBytes} from "./follow.js";
 import {arrows, keypad} from "./keypad.js";
+import {t} from "./language.js";
 import {numberDigits, segmentDigits, trafficLights} from "./lights.js";
 import {line} from "./line.js";
 import {KINDS, MOST_DEVICES, checked, deviceOf, notesOf, wordsOf} from "./notes.js";
 import {bitmapScreen, matrix, tallScreen, textScreen} from "./screens.js";
+import {isBeside} from "./server.js";
 import {on} from "./signals.js";
 
 // Each makes what is shown of a device: {element}, with `draw` for the bytes that it shows, and `close` if its end has to be told.
@@ -80,16 +82,16 @@ function draw() {
         const value = valueOf(each), key = value && value.join();
         if (value && key !== each.key) each.made.draw(value);
         each.key = key || each.key;
-        const text = value || pieceOf(each) ? "" : `${each.device.place} is no address yet`;
+        const text = value || pieceOf(each) ? "" : t("{0} is no address yet", [each.device.place]);
         if (each.said.textContent !== text) each.said.textContent = text;
     }
 }
 
 function placeField(each) {
     const {device} = each, isByte = KINDS[device.kind].takes[0].first === "lamps";
-    const what = isByte ? "An address of base 16, a symbol, or lamps" : "An address of base 16 or a symbol";
+    const what = isByte ? t("An address of base 16, a symbol, or lamps") : t("An address of base 16 or a symbol");
     const field = make("input", {type: "text", className: "place", value: device.place, title: what, spellcheck: false,
-        autocomplete: "off", "aria-label": `${KINDS[device.kind].name} at`});
+        autocomplete: "off", "aria-label": t("{0} at", [t(KINDS[device.kind].name)])});
     field.onchange = () => {
         const place = KINDS[device.kind].takes[0].of(field.value.trim());
         field.setAttribute("aria-invalid", place === undefined);
@@ -105,14 +107,14 @@ function placeField(each) {
 
 // What the values are called from which the user chooses.
 const SAYS = {
-    count: value => value === 1 ? "1 byte" : `${value} bytes`, way: value => value, vector: value => `RST ${value}`,
+    count: value => value === 1 ? t("1 byte") : t("{0} bytes", [value]), way: value => value, vector: value => `RST ${value}`,
     rate: value => `${value}/s`,
 };
-const TITLES = {count: "How many bytes", way: "What they do", vector: "The button", rate: "Ticks a second"};
+const TITLES = {count: t("How many bytes"), way: t("What they do"), vector: t("The button"), rate: t("Ticks a second")};
 
 function choiceField(each, {name, values}) {
     const {device} = each, options = values.map(value => make("option", {value: String(value)}, SAYS[name](value)));
-    const field = make("select", {title: TITLES[name], "aria-label": `${KINDS[device.kind].name}: ${TITLES[name]}`}, ...options);
+    const field = make("select", {title: TITLES[name], "aria-label": `${t(KINDS[device.kind].name)}: ${TITLES[name]}`}, ...options);
     field.value = String(device[name]);
     field.onchange = () => change(each, {...device, [name]: values[field.selectedIndex]}, name);
     return field;
@@ -129,9 +131,9 @@ function change(each, device, name) {
 const fieldFor = (each, take) => take.values ? choiceField(each, take) : placeField(each);
 
 function add(device) {
-    const {name, about, takes} = KINDS[device.kind], said = make("p", {className: "note"}), each = {device, said, key: undefined};
+    const {takes} = KINDS[device.kind], [name, about] = [t(KINDS[device.kind].name), t(KINDS[device.kind].about)], said = make("p", {className: "note"}), each = {device, said, key: undefined};
     each.made = MAKERS[device.kind](device);
-    const drop = make("button", {type: "button", className: "drop", "aria-label": `Remove ${name}`, title: "Removes it"}, "\u00D7");
+    const drop = make("button", {type: "button", className: "drop", "aria-label": t("Remove {0}", [name]), title: t("Removes it")}, "\u00D7");
     drop.onclick = () => remove(each);
     const head = make("h3", {}, make("span", {title: about}, name), ...takes.map(take => fieldFor(each, take)), drop);
     const looks = {className: `device of-${device.kind}`, role: "group", "aria-label": name};
@@ -190,9 +192,26 @@ function takeNotes(text) {
     return true;
 }
 
-/** A page that is opened late takes the notes of the newest text that has some. */
+/** Takes the notes of a cell that begins to run. Beside a notebook, where they stand below the first screen, devices that weren't
+ *  shown before come into view; elsewhere the user has just run the page's own cell, which stays where it is. */
+function takeCell({text}) {
+    const {note} = shown;
+    if (takeNotes(text) && isBeside && shown.note !== note) byId("devices-section").scrollIntoView({block: "nearest"});
+}
+
+// Whether the page has joined its board.
+let hasJoined = false;
+
+/** A page that is opened late takes the notes of the newest text that has some, but not before what it has shown before a reload. */
 function takeLate() {
-    if (shown.note === "" && shown.list.length === 0) [...known.texts.values()].reverse().some(({text}) => takeNotes(text));
+    if (!hasJoined || shown.note !== "" || shown.list.length > 0) return;
+    [...known.texts.values()].reverse().some(({text}) => takeNotes(text));
+}
+
+function join() {
+    hasJoined = true;
+    if (shown.list.length === 0) restore();
+    takeLate();
 }
 
 const AS_NAMED = "as named";
@@ -209,18 +228,18 @@ function choose() {
 /** The words of all devices, as programs name them, with what each is. */
 function listKinds() {
     byId("all-devices").append(...Object.entries(KINDS).flatMap(([kind, {about}]) =>
-        [make("dt", {}, make("code", {}, wordsOf(deviceOf(kind)))), make("dd", {}, about)]));
+        [make("dt", {}, make("code", {}, wordsOf(deviceOf(kind)))), make("dd", {}, t(about))]));
 }
 
 export function listenToDevices() {
-    const options = Object.entries(KINDS).map(([kind, {name}]) => make("option", {value: kind}, name));
+    const options = Object.entries(KINDS).map(([kind, {name}]) => make("option", {value: kind}, t(name)));
     listKinds();
-    byId("add-device").append(...options, make("option", {value: AS_NAMED, hidden: true}, "As the program says"));
+    byId("add-device").append(...options, make("option", {value: AS_NAMED, hidden: true}, t("As the program says")));
     byId("add-device").onchange = choose;
     Object.assign(followed, {wanted: () => shown.list.map(pieceOf).filter(each => each !== null), draw});
     beginFollowing();
-    on("joined", () => shown.list.length > 0 || restore());
-    on("cell", ({text}) => takeNotes(text));
+    on("joined", join);
+    on("cell", takeCell);
     on("texts", takeLate);
     for (const signal of ["devices", "looked"]) on(signal, draw);
 }

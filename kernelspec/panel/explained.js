@@ -1,6 +1,7 @@
 // Explains the step that led to the shown stop: one line below the flags, and more when it is opened.
 import {board, view} from "./board.js";
 import {afterwards, byId, make, numberOf, readSetting, saveSetting} from "./dom.js";
+import {t} from "./language.js";
 import {shownStops} from "./past.js";
 import {on} from "./signals.js";
 import {explain} from "./why.js";
@@ -8,12 +9,12 @@ import {explain} from "./why.js";
 const SETTING = "why";
 
 const WORDS = {
-    first: "Steps are explained here, each with its numbers",
-    unknown: "Not explained: not one instruction alone led here from the stop before",
+    first: t("Steps are explained here, each with its numbers"),
+    unknown: t("Not explained: not one instruction alone led here from the stop before"),
 };
 
 /** The values of a stop by their names, as numbers, with the bytes that were looked at there. */
-function valuesOf({registers, flags, memory, stack, used = []}) {
+export function valuesOf({registers, flags, memory, stack, used = []}) {
     const bytes = new Map([...memory, ...stack, ...used].map(({name, value}) => [numberOf(name), numberOf(value)]));
     const named = flags.map(({name, value}) => [name, name === "INTE" ? Number(value !== "off") : Number(value)]);
     return Object.fromEntries([...registers.map(({name, value}) => [name, numberOf(value)]), ...named,
@@ -31,7 +32,7 @@ export function explanationOf(before, after) {
 
 /** An explanation as sentences: its result, and what it did to each flag. */
 export function sentences({instruction, result, notes, flags, kept}) {
-    const ofFlags = flags.map(({name, value, why}) => `${name} is ${value}: ${why}`);
+    const ofFlags = flags.map(({name, value, why}) => `${t("{0} is {1}", [name, value])}: ${why}`);
     return [`${instruction}: ${result}`, ...notes, ...ofFlags, ...kept ? [kept] : []];
 }
 
@@ -39,7 +40,7 @@ function draw(found) {
     const {instruction, result, notes, flags, kept} = found;
     byId("why-result").replaceChildren(make("b", {}, `${instruction}:`), ` ${result}`);
     byId("why-flags").replaceChildren(...notes.map(each => make("li", {}, each)),
-        ...flags.map(({name, value, why}) => make("li", {}, make("b", {}, `${name} is ${value}`), `: ${why}`)),
+        ...flags.map(({name, value, why}) => make("li", {}, make("b", {}, t("{0} is {1}", [name, value])), `: ${why}`)),
         ...kept ? [make("li", {}, kept)] : []);
 }
 

@@ -6,6 +6,7 @@ import {printedText} from "./console.js";
 import {byId, hexadecimal, numberOf} from "./dom.js";
 import {explanationOf, sentences} from "./explained.js";
 import {openers, saveFile} from "./files.js";
+import {shownCode, t} from "./language.js";
 import {frameName} from "./names.js";
 import {changed, stateNow, stops} from "./past.js";
 import {Player} from "./player.js";
@@ -18,19 +19,24 @@ import {on} from "./signals.js";
 const MOST_BYTES = 1 << 22, MOST_OF_TEXTS = 1500000, MOST_PRINTED = 100000, MOST_FRAMES = 16;
 
 const WORDS = {
-    title: (name, count) => `${name.replace(/[.:;,]+$/, "") || "A run"}, ${count === 1 ? "one moment" : `${count} moments`}`,
-    about: "A run of an Intel 8080 that lab80 has recorded. The file has its player, which needs JavaScript and nothing else.",
-    tooLong: count => count === 1 ? "One program is left out, since it is too long for a film."
-        : `${count} programs are left out, since they are too long for a film.`,
-    stopsLess: "The first stops are left out, since the film would be too long.",
-    printedLess: "What was printed first is left out, since it is too long for a film.",
-    many: size => `${size} bytes are too many; a film has ${MOST_BYTES.toLocaleString("en")} at most`,
-    version: version => `this is a film of version ${version}, and this page plays version ${Player.VERSION}`,
-    noUtf8: "the film is damaged: it is no text in UTF-8",
-    cut: "the film is damaged, or was cut off",
-    refused: (name, why) => `${name}: ${why}. Nothing was opened`,
-    noProgram: "Film: this moment has no program",
+    title: (name, count) => [name.replace(/[.:;,]+$/, "") || t("A run"), count === 1 ? t("one moment") : t("{0} moments", [count])].join(t(", ")),
+    about: t("A run of an Intel 8080 that lab80 has recorded. The file has its player, which needs JavaScript and nothing else."),
+    tooLong: count => count === 1 ? t("One program is left out, since it is too long for a film.")
+        : t("{0} programs are left out, since they are too long for a film.", [count]),
+    stopsLess: t("The first stops are left out, since the film would be too long."),
+    printedLess: t("What was printed first is left out, since it is too long for a film."),
+    many: size => t("{0} bytes are too many; a film has {1} at most", [size, MOST_BYTES.toLocaleString("en")]),
+    version: version => t("this is a film of version {0}, and this page plays version {1}", [version, Player.VERSION]),
+    noUtf8: t("the film is damaged: it is no text in UTF-8"),
+    cut: t("the film is damaged, or was cut off"),
+    refused: (name, why) => t("{0}: {1}. Nothing was opened", [name, why]),
+    noProgram: t("Film: this moment has no program"),
 };
+
+// The player's texts in the page's language, for the films that are made and for those that are played here.
+const inLanguage = texts => Object.fromEntries(Object.entries(texts).map(([name, text]) => [name, t(text)]));
+const PLAYERS_TEXTS = {WORDS: inLanguage(Player.WORDS), LACKS: inLanguage(Player.LACKS)};
+for (const [name, texts] of Object.entries(PLAYERS_TEXTS)) Object.assign(Player[name], texts);
 
 // ---- making one
 
@@ -67,7 +73,7 @@ function momentOf(stop, before, {paths, dropped}) {
         flags: Player.FLAGS.map(name => valueIn(stop.flags, name)), lamps, switches,
         printed: typeof printed === "number" && printed >= dropped ? printed - dropped : -1,
         changed: before ? changed(snapshot(before), stop) : [], memory: piecesOf(stop),
-        why: found ? sentences(found) : [], calls: frames.slice(0, MOST_FRAMES).map(frameName),
+        why: [...found ? sentences(found) : [], ...stop.warnings || []], calls: frames.slice(0, MOST_FRAMES).map(frameName),
     };
 }
 
@@ -98,13 +104,17 @@ const written = value => JSON.stringify(value).replaceAll("<", "\\u003c");
 
 const escaped = text => text.replaceAll("&", "&amp;").replaceAll("<", "&lt;");
 
+/** The lines that put the texts of the page's language in the place of the player's. */
+const playersTexts = () => shownCode() === "en" ? ""
+    : Object.entries(PLAYERS_TEXTS).map(([name, texts]) => `Object.assign(Player.${name}, ${written(texts)});\n`).join("");
+
 /** The file of a film. Its policy lets the player run, and nothing else: no other script, no request. */
 function fileOf(film) {
     const {moments, ...rest} = film, nonce = identifier();
     const policy = `default-src 'none'; script-src 'nonce-${nonce}'; img-src data:; base-uri 'none'; form-action 'none'`;
     const data = `${written(rest).slice(0, -1)},\n"moments":[\n${moments.map(written).join(",\n")}\n]}`;
     return `<!doctype html>
-<html lang="en">
+<html lang="${shownCode()}">
 <head>
 <meta charset="utf-8">
 <meta name="generator" content="lab80 film ${film.version}">
@@ -117,7 +127,7 @@ function fileOf(film) {
 <script type="module" nonce="${nonce}">
 // The player of lab80's films.
 ${Player}
-Player.begin();
+${playersTexts()}Player.begin();
 </script>
 </head>
 <body>
@@ -158,7 +168,7 @@ function filmIn(bytes, version) {
         throw new Error(WORDS.cut);
     }
     const fault = Player.faultOf(film);
-    if (fault) throw new Error(`the film can't be played: ${fault}`);
+    if (fault) throw new Error(t("the film can't be played: {0}", [fault]));
     return film;
 }
 
@@ -201,7 +211,7 @@ function take() {
     const {film, at} = player, number = film.moments[at].text, text = film.texts[number] ?? film.texts[0];
     close();
     if (text === undefined) tell(WORDS.noProgram);
-    else takeProgram("Film", text);
+    else takeProgram(t("Film"), text);
 }
 
 export function listenToFilm() {

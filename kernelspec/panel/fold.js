@@ -1,6 +1,6 @@
 // Sections that are folded up to their headings, as the browser keeps them.
 import {byId, readSetting, saveSetting} from "./dom.js";
-import {showCurrent} from "./texts.js";
+import {showCurrent, showSource} from "./texts.js";
 
 const SETTING = "folded";
 
@@ -15,6 +15,7 @@ function show(title, isShown) {
 function toggle(title) {
     show(title, !isOpen(title));
     saveSetting(SETTING, titles().filter(each => !isOpen(each)).map(each => each.id));
+    showSource();
     showCurrent();
 }
 

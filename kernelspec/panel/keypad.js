@@ -1,6 +1,7 @@
 // Keys for programs: a keypad that types, and arrows.
 import {holdSwitch} from "./commands.js";
 import {make} from "./dom.js";
+import {t} from "./language.js";
 import {pressButton, typeCharacter} from "./presses.js";
 
 /** A group of keys, in which those of the keyboard work too. Each key has `text`, `name` and `keys`, the keyboard's names for it.
@@ -53,27 +54,27 @@ function pad(className, keys, down, up = () => {}) {
 const LAYOUT = [..."123A456B789CE0FD"];
 
 export function keypad() {
-    const keys = LAYOUT.map(text => ({text, name: `Key ${text}`, keys: [text]}));
+    const keys = LAYOUT.map(text => ({text, name: t("Key {0}", [text]), keys: [text]}));
     return {element: pad("keypad", keys, at => typeCharacter(LAYOUT[at]))};
 }
 
 // ---- arrows
 
 const ARROWS = [
-    {text: "\u25B2", name: "Up", keys: ["ArrowUp", "W"]}, {text: "\u25BC", name: "Down", keys: ["ArrowDown", "S"]},
-    {text: "\u25C0", name: "Left", keys: ["ArrowLeft", "A"]}, {text: "\u25B6", name: "Right", keys: ["ArrowRight", "D"]},
-    {text: "\u25CF", name: "Middle", keys: [" "]},
+    {text: "\u25B2", name: t("Up"), keys: ["ArrowUp", "W"]}, {text: "\u25BC", name: t("Down"), keys: ["ArrowDown", "S"]},
+    {text: "\u25C0", name: t("Left"), keys: ["ArrowLeft", "A"]}, {text: "\u25B6", name: t("Right"), keys: ["ArrowRight", "D"]},
+    {text: "\u25CF", name: t("Middle"), keys: [" "]},
 ];
 const CHARACTERS = [..."WSAD "];
 
 // What each way does with a key that goes down or up, and what is said of it.
 const WAYS = {
     buttons: {
-        about: "RST 1 to RST 5: up, down, left, right, middle", down: (at, say) => pressButton(at + 1, say),
+        about: t("RST 1 to RST 5: up, down, left, right, middle"), down: (at, say) => pressButton(at + 1, say),
     },
-    keys: {about: "They type W, S, A, D and a blank", down: at => typeCharacter(CHARACTERS[at])},
+    keys: {about: t("They type W, S, A, D and a blank"), down: at => typeCharacter(CHARACTERS[at])},
     switches: {
-        about: "S0 to S4, held up: up, down, left, right, middle", down: at => holdSwitch(at, true), up: at => holdSwitch(at, false),
+        about: t("S0 to S4, held up: up, down, left, right, middle"), down: at => holdSwitch(at, true), up: at => holdSwitch(at, false),
     },
 };
 
@@ -81,6 +82,6 @@ export function arrows({way}) {
     const {about, down, up} = WAYS[way], said = make("p", {className: "note", role: "status"});
     const say = text => { if (said.textContent !== text) said.textContent = text; };
     const keys = pad("arrows", ARROWS, at => down(at, say), up);
-    const note = make("p", {className: "note"}, `${about}. Click here to use the arrows and the space bar of the keyboard`);
+    const note = make("p", {className: "note"}, t("{0}. Click here to use the arrows and the space bar of the keyboard", [about]));
     return {element: make("div", {}, keys, note, said)};
 }

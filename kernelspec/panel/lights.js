@@ -1,5 +1,6 @@
 // Small displays of some bytes: digits, segments and traffic lights.
 import {hexadecimal, make} from "./dom.js";
+import {t} from "./language.js";
 import {DIGITS, digits, drawing} from "./segments.js";
 
 function segmented(bitsOf, wordsOf) {
@@ -21,18 +22,19 @@ const SEGMENT_NAMES = "abcdefg.";
 
 /** Digits whose segments are given by bits. */
 export function segmentDigits() {
-    const named = byte => [...SEGMENT_NAMES].filter((_, bit) => byte >> bit & 1).join("") || "none";
-    return segmented(bytes => [...bytes], bytes => `Segments that are lit: ${[...bytes].map(named).join(", ")}`);
+    const named = byte => [...SEGMENT_NAMES].filter((_, bit) => byte >> bit & 1).join("") || t("none");
+    return segmented(bytes => [...bytes], bytes => t("Segments that are lit: {0}", [[...bytes].map(named).join(", ")]));
 }
 
 // ---- traffic lights
 
 // The lamps of a post from the top, each with its bit, its colour and its letter, and the posts.
-const COLOURS = [["red", "R"], ["yellow", "Y"], ["green", "G"]];
+const COLOURS = [["red", t("R")], ["yellow", t("Y")], ["green", t("G")]];
+const COLOUR_NAMES = {red: t("red"), yellow: t("yellow"), green: t("green")};
 const road = first => COLOURS.map(([colour, letter], at) => ({bit: first + at, colour, letter}));
 const POSTS = [
-    {name: "First road", lamps: road(0)}, {name: "Second road", lamps: road(3)},
-    {name: "Walkers", lamps: [{bit: 6, colour: "red", letter: "stop"}, {bit: 7, colour: "green", letter: "walk"}]},
+    {name: t("First road"), lamps: road(0)}, {name: t("Second road"), lamps: road(3)},
+    {name: t("Walkers"), lamps: [{bit: 6, colour: "red", letter: t("stop")}, {bit: 7, colour: "green", letter: t("walk")}]},
 ];
 const BOTH_GREEN = 0x24, WALK = 0x80;
 
@@ -50,7 +52,7 @@ function post({name, lamps}) {
     const draw = byte => {
         const on = lamps.filter(({bit}) => byte >> bit & 1);
         lit.forEach((each, at) => each.classList.toggle("on", on.includes(lamps[at])));
-        picture.setAttribute("aria-label", `${name}: ${on.map(({colour}) => colour).join(" and ") || "dark"}`);
+        picture.setAttribute("aria-label", `${name}: ${on.map(({colour}) => COLOUR_NAMES[colour]).join(t(" and ")) || t("dark")}`);
     };
     return {element: make("figure", {}, picture, says), draw};
 }
@@ -61,7 +63,7 @@ export function trafficLights() {
     const draw = ([byte]) => {
         for (const each of posts) each.draw(byte);
         const isCrash = (byte & BOTH_GREEN) === BOTH_GREEN || (byte & WALK) !== 0 && (byte & BOTH_GREEN) !== 0;
-        const text = isCrash ? "Two of them are green: a crash" : "";
+        const text = isCrash ? t("Two of them are green: a crash") : "";
         if (said.textContent !== text) said.textContent = text;
     };
     return {element: make("div", {className: "lights"}, ...posts.map(each => each.element), said), draw};

@@ -2,6 +2,12 @@
 //
 //     ; lab80: matrix DOTS, digits SCORE 2, arrows, bell
 
+// How a sentence is said, with values in the place of {0}: in English, unless a page sets another function.
+let t = (text, values = []) => text.replace(/\{(\w+)\}/g, (whole, name) => values[name] ?? whole);
+
+/** Sets the function that translates sentences, with the same arguments. */
+export const speakBy = translate => { t = translate; };
+
 // What may follow a device's word, in order. `of` gives a word's value, or undefined if the word isn't one; where there are few,
 // these are its `values`.
 const LAMPS = "lamps", PLACE = /^(?:[A-Za-z?@][A-Za-z0-9?@]*|[0-9][0-9A-Fa-f]*H?)$/i, LONGEST_PLACE = 31;
@@ -56,7 +62,7 @@ const quoted = word => `\u201C${word.length > 40 ? word.slice(0, 40) + "\u2026" 
 /** The device of a part of a note, or a sentence that says what is wrong with it. */
 function read(part) {
     const [word, ...rest] = part.split(/\s+/), kind = word.toLowerCase();
-    if (!Object.hasOwn(KINDS, kind)) return `${quoted(word)} is no device; there are ${Object.keys(KINDS).join(", ")}`;
+    if (!Object.hasOwn(KINDS, kind)) return t("{0} is no device; there are {1}", [quoted(word), Object.keys(KINDS).join(", ")]);
     const device = deviceOf(kind), takes = [...KINDS[kind].takes];
     for (const each of rest) {
         let value;
@@ -65,17 +71,21 @@ function read(part) {
             value = of(each);
             if (value !== undefined) device[name] = value;
         }
-        if (value === undefined) return `${quoted(each)} can\u2019t follow ${kind}${hintFor(kind)}`;
+        if (value === undefined) return refusalOf(each, kind);
     }
     return device;
 }
 
-const HINTS = {place: "an address or a label", count: "a number of bytes", way: WAYS.join(", "), vector: "0 to 7, the button",
-    rate: "1 to 3, how often a second"};
+const HINTS = {
+    place: () => t("an address or a label"), count: () => t("a number of bytes"), way: () => WAYS.join(", "),
+    vector: () => t("0 to 7, the button"), rate: () => t("1 to 3, how often a second"),
+};
 
-function hintFor(kind) {
-    const hints = KINDS[kind].takes.map(({name}) => HINTS[name]);
-    return hints.length > 0 ? `; what can is ${hints.join(", then ")}` : "";
+/** Says that a word can't follow a kind of device, and what can. */
+function refusalOf(word, kind) {
+    const hints = KINDS[kind].takes.map(({name}) => HINTS[name]());
+    if (hints.length === 0) return t("{0} can\u2019t follow {1}", [quoted(word), kind]);
+    return t("{0} can\u2019t follow {1}; what can is {2}", [quoted(word), kind, hints.join(t(", then "))]);
 }
 
 const NOTE = /^[ \t]*;[ \t]*lab80:([^\n\r]*)/gim;
@@ -88,6 +98,6 @@ export function notesOf(text) {
     const note = [...text.matchAll(NOTE)].map(found => found[1].trim()).join(", ").slice(0, LONGEST_NOTE);
     const found = note.split(",").map(each => each.trim()).filter(each => each !== "").map(read);
     const devices = found.filter(each => typeof each === "object"), faults = found.filter(each => typeof each === "string");
-    if (devices.length > MOST_DEVICES) faults.push(`${devices.length} devices are too many; ${MOST_DEVICES} are shown`);
+    if (devices.length > MOST_DEVICES) faults.push(t("{0} devices are too many; {1} are shown", [devices.length, MOST_DEVICES]));
     return {note, devices: devices.slice(0, MOST_DEVICES), faults};
 }

@@ -13,12 +13,13 @@ export class Player {
     // Lines of a program that are drawn before and after the current one.
     static AROUND = 150;
 
+    // Its texts in English. A film, and the page that plays one, put those of their language in the place.
     static WORDS = {
         play: "Play", pause: "Pause", before: "Moment before", after: "Moment after", moment: "Moment", speed: "Speed",
-        rate: count => `${count} a second`, count: (at, all) => `${at} of ${all}`,
+        rate: "{0} a second", count: "{0} of {1}",
         program: "Program", registers: "Registers and flags", why: "Why", changed: "Changed", memory: "Memory seen",
         lamps: "Lamps and switches", calls: "Call stack", output: "Console", all: "All moments as text", keys: "Keys",
-        lamp: byte => `Lamps ${byte}`, switches: byte => `switches ${byte}`, changedValue: text => `${text}, changed`,
+        lamp: "Lamps {0}", switches: "{0}, switches {1}", changedValue: "{0}, changed",
         none: "nothing", noText: "This moment's program isn't in the film.",
         noOutput: "What was printed up to here isn't in the film.",
         keyList: "Space plays and pauses; left and right arrow go to the moment before and after; Home and End to the first and "
@@ -26,14 +27,25 @@ export class Player {
         limits: "The film has what its page saw of the board: the stops of a run. What ran between two stops isn't in it, nor "
             + "memory that the page didn't look at.",
         step: "One instruction after the moment before.", gap: "Other instructions may have run since the moment before.",
-        end: "The run has ended.", told: ({at, all, number, line, code}) =>
-            `Moment ${at} of ${all}${number && `, stop ${number}`}${line && `, line ${line}`}${code && `, before ${code}`}.`,
-        change: ([name, was, is]) => `${name} from ${was} to ${is}`, sinceThen: list => `Since the moment before: ${list}.`,
-        noFilm: "This file has no film that can be played", cut: "it is damaged, or was cut off",
-        version: number => `it is of version ${number}, and this player plays version ${Player.VERSION}`,
-        wrong: (at, what) => `it is damaged: ${at ? `moment ${at} has` : "it has"} no ${what} that can be shown`,
-        many: (what, most) => `it has more than ${most} ${what}`,
+        end: "The run has ended.", told: "Moment {0} of {1}{2}.", ofStop: ", stop {0}", ofLine: ", line {0}", ofCode: ", before {0}",
+        change: "{0} from {1} to {2}", sinceThen: "Since the moment before: {0}.",
+        noFilm: "This file has no film that can be played: {0}.", cut: "it is damaged, or was cut off",
+        version: "it is of version {0}, and this player plays version {1}",
+        wrong: "it is damaged: it has no {0} that can be shown", wrongMoment: "it is damaged: moment {0} has no {1} that can be shown",
+        many: "it has more than {0} moments",
     };
+
+    // What a film may lack, by its names in English.
+    static LACKS = {
+        title: "title", program: "program", console: "console", left: "list of what is left out", moments: "moments", values: "values",
+        registers: "registers", flags: "flags", line: "line", instruction: "instruction", lamps: "lamps",
+        place: "place in the console", changes: "changes", memory: "memory", explanation: "explanation",
+    };
+
+    /** A text with values in the place of {0}, {1} and so on. */
+    static say(name, ...values) {
+        return Player.WORDS[name].replace(/\{(\d)\}/g, (_, at) => values[at]);
+    }
 
     static STYLE = `
         :host { color-scheme: light dark; --ink: #20242b; --faint: #5c626d; --edge: #cfccc3; --well: #fff; --card: #fbfaf7;
@@ -93,19 +105,20 @@ export class Player {
 
     /** Why something can't be played as a film; an empty text if it can. */
     static faultOf(film) {
-        const {WORDS, MOST} = Player, isText = (it, most = MOST.name) => typeof it === "string" && it.length <= most;
+        const {WORDS, LACKS, MOST, say} = Player, isText = (it, most = MOST.name) => typeof it === "string" && it.length <= most;
         const isList = (it, most, isOne) => Array.isArray(it) && it.length <= most && it.every(isOne);
+        const wrong = name => say("wrong", LACKS[name]);
         if (!film || typeof film !== "object") return WORDS.cut;
-        if (film.version !== Player.VERSION) return WORDS.version(String(film.version).slice(0, 20));
-        if (!isText(film.title)) return WORDS.wrong(0, "title");
-        if (!isList(film.texts, MOST.texts, each => isText(each, MOST.characters))) return WORDS.wrong(0, "program");
-        if (!isText(film.output, MOST.characters)) return WORDS.wrong(0, "console");
-        if (!isList(film.left, MOST.list, each => isText(each))) return WORDS.wrong(0, "list of what is left out");
-        if (!Array.isArray(film.moments) || film.moments.length === 0) return WORDS.wrong(0, "moments");
-        if (film.moments.length > MOST.moments) return WORDS.many("moments", MOST.moments);
+        if (film.version !== Player.VERSION) return say("version", String(film.version).slice(0, 20), Player.VERSION);
+        if (!isText(film.title)) return wrong("title");
+        if (!isList(film.texts, MOST.texts, each => isText(each, MOST.characters))) return wrong("program");
+        if (!isText(film.output, MOST.characters)) return wrong("console");
+        if (!isList(film.left, MOST.list, each => isText(each))) return wrong("left");
+        if (!Array.isArray(film.moments) || film.moments.length === 0) return wrong("moments");
+        if (film.moments.length > MOST.moments) return say("many", MOST.moments);
         for (const [at, moment] of film.moments.entries()) {
             const lack = Player.lackOf(moment, film, isText, isList);
-            if (lack) return WORDS.wrong(at + 1, lack);
+            if (lack) return say("wrongMoment", at + 1, LACKS[lack]);
         }
         return "";
     }
@@ -123,7 +136,7 @@ export class Player {
         if (!isNumber(moment.text + 1, film.texts.length) || !isNumber(moment.line, 1e6)) return "line";
         if (!isNumber(moment.number, 1e9) || !isText(moment.code) || typeof moment.step !== "boolean") return "instruction";
         if (!isNumber(moment.lamps, 255) || !isNumber(moment.switches, 255)) return "lamps";
-        if (!isNumber(printed + 1, film.output.length + 1)) return "place in the console";
+        if (!isNumber(printed + 1, film.output.length + 1)) return "place";
         if (!isList(changed, MOST.list, each => isList(each, 3, part => isText(part, 20)) && each.length === 3)) return "changes";
         if (!isList(memory, MOST.pieces, isPiece)) return "memory";
         return isList(why, 20, each => isText(each, 1000)) && isList(calls, 100, each => isText(each)) ? "" : "explanation";
@@ -190,10 +203,10 @@ export class Player {
 
     /** The buttons, the slider and the speed. */
     bar() {
-        const {WORDS, make} = Player, last = this.film.moments.length - 1;
+        const {WORDS, make, say} = Player, last = this.film.moments.length - 1;
         const button = (className, text, label, work) =>
             make("button", {type: "button", className, "aria-label": label, title: label, onclick: work}, text);
-        const rates = [1, 2, 5, 10, 20].map(rate => make("option", {value: rate, selected: rate === 2}, WORDS.rate(rate)));
+        const rates = [1, 2, 5, 10, 20].map(rate => make("option", {value: rate, selected: rate === 2}, say("rate", rate)));
         Object.assign(this, {
             playButton: make("button", {type: "button", className: "play", onclick: () => this.toggle()}, WORDS.play),
             back: button("before", "\u25C0", WORDS.before, () => this.go(this.at - 1)),
@@ -283,18 +296,18 @@ export class Player {
 
     /** A moment in words. */
     tell(at) {
-        const {WORDS, seen} = Player, {moments} = this.film, moment = moments[at], {number, line, changed, step} = moment;
-        const since = at === 0 ? "" : step ? WORDS.step : moment.code || number ? WORDS.gap : WORDS.end;
-        const list = changed.map(WORDS.change).join(", ");
-        const given = {number: number || "", line: line || "", code: seen(moment.code)};
-        const told = WORDS.told({at: at + 1, all: moments.length, ...given});
-        return [told, since, at > 0 && list ? seen(WORDS.sinceThen(list)) : ""].filter(each => each).join(" ");
+        const {WORDS, seen, say} = Player, {moments} = this.film, moment = moments[at], {number, line, code, changed, step} = moment;
+        const since = at === 0 ? "" : step ? WORDS.step : code || number ? WORDS.gap : WORDS.end;
+        const list = changed.map(each => say("change", ...each)).join(", ");
+        const more = [number && say("ofStop", number), line && say("ofLine", line), code && say("ofCode", seen(code))];
+        const told = say("told", at + 1, moments.length, more.filter(each => each).join(""));
+        return [told, since, at > 0 && list ? seen(say("sinceThen", list)) : ""].filter(each => each).join(" ");
     }
 
     draw() {
         const {moments} = this.film, moment = moments[this.at], {WORDS, seen, make} = Player;
         this.slider.value = this.at;
-        this.count.textContent = WORDS.count(this.at + 1, moments.length);
+        this.count.textContent = Player.say("count", this.at + 1, moments.length);
         this.slider.setAttribute("aria-valuetext", this.parts.told.textContent = this.tell(this.at));
         this.back.disabled = this.at === 0;
         this.next.disabled = this.at === moments.length - 1;
@@ -350,9 +363,9 @@ export class Player {
     }
 
     drawValues({registers, flags}) {
-        const {REGISTERS, FLAGS, WORDS, make, hex, seen} = Player;
+        const {REGISTERS, FLAGS, make, hex, seen} = Player;
         const item = (name, value) => {
-            const members = this.isNew.has(name) ? {className: "new", "aria-label": WORDS.changedValue(value)} : {};
+            const members = this.isNew.has(name) ? {className: "new", "aria-label": Player.say("changedValue", value)} : {};
             return make("div", {}, make("dt", {}, name), make("dd", {"data-name": name, ...members}, value));
         };
         const numbers = REGISTERS.map((name, at) => item(name, hex(registers[at], name.length > 1 ? 4 : 2)));
@@ -361,11 +374,11 @@ export class Player {
     }
 
     drawLamps({lamps, switches}) {
-        const {WORDS, make, hex} = Player, bits = [7, 6, 5, 4, 3, 2, 1, 0];
+        const {make, hex, say} = Player, bits = [7, 6, 5, 4, 3, 2, 1, 0];
         const shown = bits.map(bit => make("span", {className: lamps >> bit & 1 ? "lamp on" : "lamp"}));
-        const said = WORDS.lamp(`${lamps.toString(2).padStart(8, "0")}B`);
+        const said = say("lamp", `${lamps.toString(2).padStart(8, "0")}B`);
         const row = make("span", {className: "lamps", role: "img", "aria-label": said}, ...shown);
-        this.parts.lamps.replaceChildren(row, `${hex(lamps)}H, ${WORDS.switches(`${hex(switches)}H`)}`);
+        this.parts.lamps.replaceChildren(row, say("switches", `${hex(lamps)}H`, `${hex(switches)}H`));
     }
 
     drawMemory({memory}) {
@@ -388,7 +401,7 @@ export class Player {
 
     /** Plays the film that a page has in it, or says why it can't. */
     static begin() {
-        const {WORDS, make} = Player, sheet = new CSSStyleSheet(), host = make("main");
+        const {make} = Player, sheet = new CSSStyleSheet(), host = make("main");
         sheet.replaceSync("body { margin: 1em auto; max-width: 72em; padding: 0 .7em; font: 14px/1.4 system-ui, sans-serif; }"
             + "h1 { font-size: 17px; margin: 0 0 .6em; overflow-wrap: anywhere; }");
         document.adoptedStyleSheets = [sheet];
@@ -399,7 +412,7 @@ export class Player {
             // the sentence below says it
         }
         const fault = Player.faultOf(film);
-        const title = fault ? `${WORDS.noFilm}: ${fault}.` : Player.seen(film.title);
+        const title = fault ? Player.say("noFilm", fault) : Player.seen(film.title);
         document.body.prepend(make("h1", fault ? {role: "alert"} : {}, title), host);
         if (fault) return;
         const player = new Player(host, film);

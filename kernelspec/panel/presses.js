@@ -3,6 +3,7 @@
 import {mayRun} from "./board.js";
 import {attempt} from "./commands.js";
 import {passed, turns} from "./dom.js";
+import {t} from "./language.js";
 import {Refusal, debug} from "./line.js";
 import {noteDevices, variables} from "./look.js";
 
@@ -43,7 +44,7 @@ export async function ask(vector, tries = MOST_TRIES) {
 /** Presses a button. `say` is told if the program takes none. */
 export const pressButton = (vector, say) => enter(() => attempt(`RST ${vector}`, async () => {
     const isTaken = await ask(vector);
-    say(isTaken ? "" : "The program hasn\u2019t taken the button that was pressed before");
+    say(isTaken ? "" : t("The program hasn\u2019t taken the button that was pressed before"));
     await showDevices();
 }));
 
@@ -54,7 +55,7 @@ export function typeCharacter(character) {
     const isFirst = typed === "";
     if (typed.length < MOST_CHARACTERS) typed += character;
     if (!isFirst) return;
-    inTurn(() => attempt("Type", async () => {
+    inTurn(() => attempt(t("Type"), async () => {
         const text = typed;
         typed = "";
         await debug("boardType", {text});

@@ -6,6 +6,7 @@ import {keepCell} from "./cell.js";
 import {attach, changeBreakpoints} from "./commands.js";
 import {addressText, byId, numberOf} from "./dom.js";
 import {cellOf} from "./hex.js";
+import {t} from "./language.js";
 import {Refusal, debug, isOpen, send} from "./line.js";
 import {allSymbols, lookSoon, lookState, variables} from "./look.js";
 import {on} from "./signals.js";
@@ -134,8 +135,8 @@ function keepTexts({texts, cell}) {
 
 /** Gives a snapshot to the board, which must be idle. Returns what it couldn't give, as texts; fails with a Refusal. */
 export async function restoreBoard(snapshot) {
-    if (board.running === undefined) throw new Refusal("execute", "it isn't known yet whether a cell runs; try again");
-    if (board.running || board.stopped) throw new Refusal("execute", "a cell runs; end it first");
+    if (board.running === undefined) throw new Refusal("execute", t("it isn't known yet whether a cell runs; try again"));
+    if (board.running || board.stopped) throw new Refusal("execute", t("a cell runs; end it first"));
     await debug("boardReset");
     await runSilently(registersCell(snapshot));
     await defineSymbols(snapshot.symbols);
@@ -147,7 +148,7 @@ export async function restoreBoard(snapshot) {
     keepTexts(snapshot);
     lookState.symbolsAreStale = true;
     lookSoon(0);
-    const left = [bytes > 0 ? `${bytes} bytes of memory` : "", ...await differences(snapshot), ...lost(snapshot)];
+    const left = [bytes > 0 ? t("{0} bytes of memory", [bytes]) : "", ...await differences(snapshot), ...lost(snapshot)];
     return left.filter(each => each !== "");
 }
 
@@ -155,12 +156,18 @@ export async function restoreBoard(snapshot) {
 async function differences({symbols, registers}) {
     const [left, values] = await Promise.all([symbolsLeft(symbols), variables(1)]);
     const others = registers.filter(({name, value}) => valueOf(values, name) !== value).map(each => each.name);
-    return [left.length > 0 ? `${left.length} of the symbols` : "", others.join(", ")];
+    return [left.length > 0 ? t("{0} of the symbols", [left.length]) : "", others.join(", ")];
 }
+
+// What a snapshot says of a run that its board had.
+const RUNS = {
+    "was stopped": t("the program that was stopped, with its call stack"),
+    "waited for a button": t("the program that waited for a button, with its call stack"),
+};
 
 /** What no request can give to a board. */
 function lost({run, flags, devices}) {
     const waits = Number(valueOf(devices, "waiting")), isOn = valueOf(flags, "INTE") !== "off";
-    return [run ? `the program that ${run}, with its call stack` : "", isOn ? "that interrupts were on" : "",
-        waits > 0 ? `${waits} typed characters that no program had read` : "", "the cells' numbers"];
+    return [RUNS[run] || "", isOn ? t("that interrupts were on") : "",
+        waits > 0 ? t("{0} typed characters that no program had read", [waits]) : "", t("the cells' numbers")];
 }

@@ -1,5 +1,6 @@
 // Screens in memory: characters, and dots that are bits.
 import {make} from "./dom.js";
+import {t} from "./language.js";
 import {drawing} from "./segments.js";
 
 // ---- characters
@@ -58,7 +59,7 @@ function dotScreen({width, height, at}) {
             }
         });
         context.putImageData(picture, 0, 0);
-        canvas.setAttribute("aria-label", `${countOf(bytes)} of ${width * height} dots are lit`);
+        canvas.setAttribute("aria-label", t("{0} of {1} dots are lit", [countOf(bytes), width * height]));
     };
     return {element: canvas, draw};
 }
@@ -79,7 +80,7 @@ export function matrix() {
     const element = drawing("svg", {viewBox: "0 0 80 80", class: "matrix", role: "img"}, ...dots);
     const draw = bytes => {
         dots.forEach((dot, at) => dot.classList.toggle("on", (bytes[at >> 3] >> 7 - at % SIDE & 1) === 1));
-        element.setAttribute("aria-label", `Rows from the top: ${[...bytes].map(hexadecimalOf).join(" ")}`);
+        element.setAttribute("aria-label", t("Rows from the top: {0}", [[...bytes].map(hexadecimalOf).join(" ")]));
     };
     return {element, draw};
 }

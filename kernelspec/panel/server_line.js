@@ -1,4 +1,5 @@
 // The boards of a Jupyter server: its kernels, over its WebSockets and its REST interface. transport.js says what each export is.
+import {t} from "./language.js";
 import {SPEC, addressOn, fetchJson, isShut, isStopped, postJson, wayBack, withToken} from "./server.js";
 
 export const startsAtOnce = false, hasJournal = true;
@@ -13,7 +14,7 @@ export function open(kernel, session, handlers) {
 export async function has(kernel) {
     const {status} = await fetchJson("api/kernels/" + encodeURIComponent(kernel));
     const hasEnded = status === 404 && await isMissing(kernel);
-    return {hasEnded, isShut: isShut(status), loss: isStopped(status) ? "this server is stopped" : "", way: wayBack(status)};
+    return {hasEnded, isShut: isShut(status), loss: isStopped(status) ? t("this server is stopped") : "", way: wayBack(status)};
 }
 
 /** Whether the server itself says that it doesn't have the kernel. A proxy that has just begun answers 404 to everything. */
@@ -27,13 +28,13 @@ export async function boards() {
     const [kernels, sessions] = await Promise.all([fetchJson("api/kernels"), fetchJson("api/sessions")]);
     const names = new Map((sessions.content || []).map(each => [each.kernel && each.kernel.id, each.path || each.name]));
     const mine = (kernels.content || []).filter(each => each.name === SPEC);
-    return mine.map(({id}) => ({id, name: names.get(id) || `board ${id.slice(0, 8)}, without a notebook`}));
+    return mine.map(({id}) => ({id, name: names.get(id) || t("board {0}, without a notebook", [id.slice(0, 8)])}));
 }
 
 export async function start() {
     const {status, content} = await postJson("api/kernels", {name: SPEC});
     if (content && content.id) return {id: content.id};
-    return {refusal: `the server refused it${status ? ` (${status})` : ", or isn't there"}`};
+    return {refusal: status ? t("the server refused it ({0})", [status]) : t("the server refused it, or isn't there")};
 }
 
 /** The cells of the board's notebook, as it was saved last. */
@@ -52,7 +53,7 @@ export async function cells(kernel) {
 // The first lesson, and the folders that may have it: the server's own, and the copy that the documents tell of.
 const FIRST = "01-registers.ipynb", FOLDERS = ["", "lessons"];
 
-const NONE = "they are notebooks, and this server's folder has none. Copy the folder lessons there";
+const NONE = t("they are notebooks, and this server's folder has none. Copy the folder lessons there");
 
 const hasLessons = ({content}) => content && Array.isArray(content.content) && content.content.some(({name}) => name === FIRST);
 
@@ -62,10 +63,10 @@ export async function lessons() {
     return folder === undefined ? {refusal: NONE} : {address: await pageOf(folder)};
 }
 
-/** The address of a folder in what this server has: the classic Notebook, or JupyterLab. */
+/** The address of a folder in what this server has: the classic Notebook, which doesn't answer HEAD, or JupyterLab. */
 async function pageOf(folder) {
     const [tree, lab] = ["tree/", "lab/tree/"].map(page => addressOn(page + folder));
-    const reply = await fetch(tree, {method: "HEAD", headers: withToken()}).catch(() => ({ok: false}));
+    const reply = await fetch(tree, {headers: withToken()}).catch(() => ({ok: false}));
     return reply.ok ? tree : lab;
 }
 
@@ -75,7 +76,7 @@ async function pageOf(folder) {
 const MOST_KEPT = 2000;
 export const MOST_SHARED = 32000;
 
-const LOST_AT_LOGIN = "the cell is too long to be kept through a login. Who opens the address must be logged in already";
+const LOST_AT_LOGIN = t("the cell is too long to be kept through a login. Who opens the address must be logged in already");
 
 // Below a hub each user's server is at a path with the user's name. The path of another word leads all who open it to servers of
 // their own, but a login there drops what stands behind the number sign.

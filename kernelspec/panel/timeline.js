@@ -1,14 +1,15 @@
 // The timeline: a slider over the stops of the trace, and in the head a button while a past one is shown.
 import {view} from "./board.js";
 import {afterwards, byId, hexadecimal} from "./dom.js";
+import {t} from "./language.js";
 import {ago, goTo, goToNow, placeOfNow, placeShown, stops} from "./past.js";
 import {on} from "./signals.js";
 
 const WORDS = {
-    now: "now",
-    said: ({number, pc, instruction, changes}) => [`stop ${number}, ${hexadecimal(pc, 4)}H ${instruction}`.trim(),
-        changes && `changed: ${changes.replaceAll("\u2192", " to ")}`].filter(each => each).join(", "),
-    back: when => `As it was ${when}. Back to now`,
+    now: t("now"),
+    said: ({number, pc, instruction, changes}) => [t("stop {0}, {1}H {2}", [number, hexadecimal(pc, 4), instruction]).trim(),
+        changes && t("changed: {0}", [changes.replaceAll("\u2192", t(" to "))])].filter(each => each).join(", "),
+    back: when => t("As it was {0}. Back to now", [when]),
 };
 
 function show() {

@@ -3,6 +3,7 @@
 import {board} from "./board.js";
 import {tell} from "./commands.js";
 import {readSetting, saveSetting} from "./dom.js";
+import {t} from "./language.js";
 import {isOpen} from "./line.js";
 import {boardName, taking} from "./snapshot.js";
 import {transport} from "./transport.js";
@@ -13,8 +14,8 @@ const TICK = 10000, MOST = 90000, WARNS_AFTER = 5 * 3600 * 1000;
 const MOST_BOARDS = 8;
 let last = 0;
 
-const SAVE = "Save your work: programs have run on this board for five hours, so its journal may be nearly full, and then the "
-    + "kernel starts anew. Once the run is ended or paused, this page keeps a snapshot of the board";
+const SAVE = t("Save your work: programs have run on this board for five hours, so its journal may be nearly full, and then the "
+    + "kernel starts anew. Once the run is ended or paused, this page keeps a snapshot of the board");
 
 const isRunning = () => board.running === true && !board.stopped && !board.waits;
 const isBusy = () => transport.hasJournal && isOpen() && taking.session !== "" && isRunning();

@@ -5,6 +5,12 @@
 // Values are numbers by the names of registers and flags; `INTE` is 0 if interrupts are off. `memory` in them returns the byte at
 // an address, or undefined if nobody has looked at it.
 
+// How a sentence is said, with values in the place of {0}: in English, unless a page sets another function.
+let t = (text, values = []) => text.replace(/\{(\w+)\}/g, (whole, name) => values[name] ?? whole);
+
+/** Sets the function that translates sentences, with the same arguments. */
+export const speakBy = translate => { t = translate; };
+
 const hex = (value, digits = 2) => value.toString(16).toUpperCase().padStart(digits, "0") + "H";
 const word = value => hex(value, 4);
 const digit = value => hex(value, 1);
@@ -17,90 +23,122 @@ const is = (isSo, yes, no) => isSo ? yes : no;
 const carried = carry => is(carry, " + 1", "");
 const borrowed = borrow => is(borrow, " - 1", "");
 const like = (most, value) => hex(value, is(most > 255, 4, 2));
-const tooLong = (name, sum, most) => is(sum > most, `, so ${name} gets ${like(most, sum & most)}`, "");
+
+/** A sum, and what is left of it in a register that it doesn't fit in. */
+const cut = (said, name, sum, most) => sum > most ? t("{0}, so {1} gets {2}", [said, name, like(most, sum & most)]) : said;
+const withBorrow = (said, isSo, by) => isSo ? t("{0}, with a borrow of {1}", [said, hex(by)]) : said;
 
 // What became of the values.
 const RESULTS = {
-    sum: (a, b, carry, sum) => `${hex(a)} + ${hex(b)}${carried(carry)} = ${hex(sum)}${tooLong("A", sum, 255)}`,
-    difference: (a, b, borrow, left) => `${hex(is(left < 0, a + 256, a))} - ${hex(b)}${borrowed(borrow)} = ${hex(left & 255)}`
-        + is(left < 0, ", with a borrow of 100H", ""),
-    compared: (a, b) => `A, ${hex(a)}, ${is(a === b, "equals", is(a < b, "is below", "is above"))} ${hex(b)}. A stays`,
+    sum: (a, b, carry, sum) => cut(`${hex(a)} + ${hex(b)}${carried(carry)} = ${hex(sum)}`, "A", sum, 255),
+    difference: (a, b, borrow, left) =>
+        withBorrow(`${hex(is(left < 0, a + 256, a))} - ${hex(b)}${borrowed(borrow)} = ${hex(left & 255)}`, left < 0, 256),
+    compared(a, b) {
+        if (a === b) return t("A, {0}, equals {1}. A stays", [hex(a), hex(b)]);
+        return a < b ? t("A, {0}, is below {1}. A stays", [hex(a), hex(b)]) : t("A, {0}, is above {1}. A stays", [hex(a), hex(b)]);
+    },
     logic: (a, name, b, result) => `${hex(a)} ${name} ${hex(b)} = ${hex(result)}`,
-    up: (name, value, most) => `${name}: ${like(most, value)} + 1 = ${like(most, value + 1)}${tooLong(name, value + 1, most)}`,
-    down: (name, value, most) => `${name}: ${like(most, is(value === 0, most + 1, value))} - 1 = ${like(most, value - 1 & most)}`
-        + is(value === 0, `, with a borrow of ${hex(most + 1)}`, ""),
-    pairs: (hl, name, value, sum) => `HL + ${name}: ${word(hl)} + ${word(value)} = ${word(sum)}${tooLong("HL", sum, 65535)}`,
-    adjusted: (a, more, sum) => is(more === 0, `A, ${hex(a)}, has two decimal digits already`,
-        `${hex(a)} + ${hex(more)} = ${hex(sum)}${tooLong("A", sum, 255)}`),
-    rotated: (a, way, result) => `${hex(a)} turns ${way} to ${hex(result)}`,
-    inverted: (a, result) => `${hex(a)} inverted is ${hex(result)}`,
-    carrySet: () => "CY is set",
-    carryInverted: () => "CY is inverted",
-    got: (name, value, from) => `${name} gets ${value}${from}`,
-    from: name => ` from ${name}`,
-    exchanged: (one, first, other, second) => `${one} gets ${word(first)} and ${other} ${word(second)}: they change places`,
-    pushed: (name, value, sp) => `${word(value)}, which is ${name}, goes to the stack at ${word(sp)}`,
-    popped: (name, value, sp) => `${name} gets ${word(value)} from the stack at ${word(sp)}`,
-    jumps: to => `goes to ${word(to)}`,
-    calls: (to, back) => `goes to ${word(to)}, with the return address ${word(back)} on the stack`,
-    returns: to => `goes back to ${word(to)}, the word on the stack`,
-    taken: (flag, value, what) => `${flag} is ${value}, so it ${what}`,
-    passed: (flag, value) => `${flag} is ${value}, so the next instruction follows`,
-    reads: (value, port) => `A gets ${hex(value)} from port ${port}${["", "", ", the switches"][port] || ""}`,
-    writes: (value, port) => `port ${port}${["", ", the console,", ", the lamps,"][port] || ""} gets ${hex(value)} from A`,
-    enabled: () => "interrupts are on after the next instruction",
-    disabled: () => "interrupts are off",
-    nothing: () => "nothing changes",
-    interrupted: (vector, back) => `a button asked for RST ${vector}, which goes to ${word(8 * vector)}, with the return address `
-        + `${word(back)} on the stack. Interrupts are off`,
+    up: (name, value, most) =>
+        cut(`${name}: ${like(most, value)} + 1 = ${like(most, value + 1)}`, name, value + 1, most),
+    down: (name, value, most) =>
+        withBorrow(`${name}: ${like(most, is(value === 0, most + 1, value))} - 1 = ${like(most, value - 1 & most)}`, value === 0, most + 1),
+    pairs: (hl, name, value, sum) => cut(`HL + ${name}: ${word(hl)} + ${word(value)} = ${word(sum)}`, "HL", sum, 65535),
+    adjusted: (a, more, sum) => more === 0 ? t("A, {0}, has two decimal digits already", [hex(a)])
+        : cut(`${hex(a)} + ${hex(more)} = ${hex(sum)}`, "A", sum, 255),
+    rotated: (a, isLeft, result) => isLeft ? t("{0} turns left to {1}", [hex(a), hex(result)])
+        : t("{0} turns right to {1}", [hex(a), hex(result)]),
+    inverted: (a, result) => t("{0} inverted is {1}", [hex(a), hex(result)]),
+    carrySet: () => t("CY is set"),
+    carryInverted: () => t("CY is inverted"),
+    got: (name, value, from) => from ? t("{0} gets {1} from {2}", [name, value, from]) : t("{0} gets {1}", [name, value]),
+    exchanged: (one, first, other, second) => t("{0} gets {1} and {2} {3}: they change places", [one, word(first), other, word(second)]),
+    pushed: (name, value, sp) => t("{0}, which is {1}, goes to the stack at {2}", [word(value), name, word(sp)]),
+    popped: (name, value, sp) => t("{0} gets {1} from the stack at {2}", [name, word(value), word(sp)]),
+    jumps: to => t("goes to {0}", [word(to)]),
+    calls: (to, back) => t("goes to {0}, with the return address {1} on the stack", [word(to), word(back)]),
+    returns: to => t("goes back to {0}, the word on the stack", [word(to)]),
+    taken: (flag, value, what) => t("{0} is {1}, so it {2}", [flag, value, what]),
+    passed: (flag, value) => t("{0} is {1}, so the next instruction follows", [flag, value]),
+    reads: (value, port) => port === 2 ? t("A gets {0} from port 2, the switches", [hex(value)])
+        : t("A gets {0} from port {1}", [hex(value), port]),
+    writes(value, port) {
+        if (port === 1) return t("port 1, the console, gets {0} from A", [hex(value)]);
+        if (port === 2) return t("port 2, the lamps, gets {0} from A", [hex(value)]);
+        return t("port {1} gets {0} from A", [hex(value), port]);
+    },
+    enabled: () => t("interrupts are on after the next instruction"),
+    disabled: () => t("interrupts are off"),
+    nothing: () => t("nothing changes"),
+    interrupted: (vector, back) => t("a button asked for RST {0}, which goes to {1}, with the return address {2} on the stack. "
+        + "Interrupts are off", [vector, word(8 * vector), word(back)]),
 };
 
 // Why a flag is what it is.
 const REASONS = {
-    sign: value => `bit 7 of ${hex(value)} is ${value >> 7}`,
-    zero: value => is(value === 0, "the result is 00H", `${hex(value)} isn't zero`),
-    parity: value => `${hex(value)} is ${binary(value)} in binary, with ${ones(value)} one bit${is(ones(value) === 1, "", "s")}, `
-        + is(ones(value) % 2, "an odd number", "an even number"),
-    above: (sum, most) => `${like(most, sum)} ${is(sum > most, "is", "isn't")} above ${hex(most)}`,
-    digitsAdded: (a, b, carry) => {
-        const sum = (a & 15) + (b & 15) + carry;
-        return `the low digits ${digit(a & 15)} + ${digit(b & 15)}${carried(carry)} = ${digit(sum)}: `
-            + is(sum > 15, "a carry to the high digit", "no carry to the high digit");
+    sign: value => t("bit 7 of {0} is {1}", [hex(value), value >> 7]),
+    zero: value => value === 0 ? t("the result is 00H") : t("{0} isn't zero", [hex(value)]),
+    parity(value) {
+        const count = ones(value), given = [hex(value), binary(value), count];
+        if (count === 1) return t("{0} is {1} in binary, with {2} one bit, an odd number", given);
+        return count % 2 === 1 ? t("{0} is {1} in binary, with {2} one bits, an odd number", given)
+            : t("{0} is {1} in binary, with {2} one bits, an even number", given);
     },
-    below: (a, b, borrow) => `${hex(a)} ${is(a < b + borrow, "is", "isn't")} below ${hex(b)}${carried(borrow)}: `
-        + `${is(a < b + borrow, "a borrow", "no borrow")} (${a} - ${b}${borrowed(borrow)} = ${a - b - borrow})`,
-    digitsSubtracted: (a, b, borrow) => `the low digits ${digit(a & 15)} - ${digit(b & 15)}${borrowed(borrow)} borrow `
-        + is((a & 15) < (b & 15) + borrow, "from the high digit, which AC shows by 0", "nothing, which AC shows by 1"),
-    equal: (a, b) => is(a === b, `both are ${hex(a)}`, `${hex(a)} and ${hex(b)} differ`),
-    cleared: name => `${name} always clears it`,
-    thirdBits: (a, b) => `bit 3 is ${a >> 3 & 1} in ${hex(a)} and ${b >> 3 & 1} in ${hex(b)}, and AC is their OR`,
-    digitWas: (value, which) => `the low digit was ${digit(value & 15)}${is((value & 15) === which, "", `, not ${digit(which)}`)}`,
-    lost: (bit, value) => `bit ${bit} of ${hex(value)} was ${value >> bit & 1}`,
-    set: () => "STC sets it",
-    inverted: was => `it was ${was}`,
-    ofByte: (bit, value) => `bit ${bit} of the byte ${hex(value)} from the stack is ${value >> bit & 1}`,
-    decimalCarry: (a, carry) => is(carry, "it was 1, and stays", `${hex(a)} ${is(a > 0x99, "was", "wasn't")} above 99H`),
+    above: (sum, most) => sum > most ? t("{0} is above {1}", [like(most, sum), hex(most)])
+        : t("{0} isn't above {1}", [like(most, sum), hex(most)]),
+    digitsAdded(a, b, carry) {
+        const sum = (a & 15) + (b & 15) + carry, said = `${digit(a & 15)} + ${digit(b & 15)}${carried(carry)} = ${digit(sum)}`;
+        return sum > 15 ? t("the low digits {0}: a carry to the high digit", [said])
+            : t("the low digits {0}: no carry to the high digit", [said]);
+    },
+    below(a, b, borrow) {
+        const given = [hex(a), `${hex(b)}${carried(borrow)}`, `${a} - ${b}${borrowed(borrow)} = ${a - b - borrow}`];
+        return a < b + borrow ? t("{0} is below {1}: a borrow ({2})", given) : t("{0} isn't below {1}: no borrow ({2})", given);
+    },
+    digitsSubtracted(a, b, borrow) {
+        const said = [`${digit(a & 15)} - ${digit(b & 15)}${borrowed(borrow)}`];
+        return (a & 15) < (b & 15) + borrow ? t("the low digits {0} borrow from the high digit, which AC shows by 0", said)
+            : t("the low digits {0} borrow nothing, which AC shows by 1", said);
+    },
+    equal: (a, b) => a === b ? t("both are {0}", [hex(a)]) : t("{0} and {1} differ", [hex(a), hex(b)]),
+    cleared: name => t("{0} always clears it", [name]),
+    thirdBits: (a, b) => t("bit 3 is {0} in {1} and {2} in {3}, and AC is their OR", [a >> 3 & 1, hex(a), b >> 3 & 1, hex(b)]),
+    digitWas: (value, which) => (value & 15) === which ? t("the low digit was {0}", [digit(value & 15)])
+        : t("the low digit was {0}, not {1}", [digit(value & 15), digit(which)]),
+    lost: (bit, value) => t("bit {0} of {1} was {2}", [bit, hex(value), value >> bit & 1]),
+    set: () => t("STC sets it"),
+    inverted: was => t("it was {0}", [was]),
+    ofByte: (bit, value) => t("bit {0} of the byte {1} from the stack is {2}", [bit, hex(value), value >> bit & 1]),
+    decimalCarry(a, carry) {
+        if (carry) return t("it was 1, and stays");
+        return a > 0x99 ? t("{0} was above 99H", [hex(a)]) : t("{0} wasn't above 99H", [hex(a)]);
+    },
 };
 
 // How a result came about.
 const NOTES = {
-    bits: (a, name, b, result) => `in binary: ${binary(a)} ${name} ${binary(b)} = ${binary(result)}`,
-    lowDigit: (a, half) => is((a & 15) > 9, `06H is added: the low digit, ${digit(a & 15)}, is above 9`,
-        is(half, "06H is added: AC was 1", `06H isn't added: the low digit, ${digit(a & 15)}, isn't above 9, and AC was 0`)),
-    highDigit: (a, carry) => is(a > 0x99, `60H is added: ${hex(a)} is above 99H`,
-        is(carry, "60H is added: CY was 1", `60H isn't added: ${hex(a)} isn't above 99H, and CY was 0`)),
-    around: (a, result, bit, to) => `in binary: ${binary(a)} becomes ${binary(result)}; bit ${bit}, a ${a >> bit & 1}, `
-        + `goes to CY and to bit ${to}`,
-    through: (a, result, bit, to, carry) => `in binary: ${binary(a)} becomes ${binary(result)}; CY, which was ${carry}, `
-        + `goes to bit ${to}, and bit ${bit} to CY`,
-    inverted: (a, result) => `in binary: ${binary(a)} becomes ${binary(result)}`,
+    bits: (a, name, b, result) => t("in binary: {0}", [`${binary(a)} ${name} ${binary(b)} = ${binary(result)}`]),
+    lowDigit(a, half) {
+        if ((a & 15) > 9) return t("06H is added: the low digit, {0}, is above 9", [digit(a & 15)]);
+        return half ? t("06H is added: AC was 1") : t("06H isn't added: the low digit, {0}, isn't above 9, and AC was 0", [digit(a & 15)]);
+    },
+    highDigit(a, carry) {
+        if (a > 0x99) return t("60H is added: {0} is above 99H", [hex(a)]);
+        return carry ? t("60H is added: CY was 1") : t("60H isn't added: {0} isn't above 99H, and CY was 0", [hex(a)]);
+    },
+    around: (a, result, bit, to) => t("in binary: {0} becomes {1}; bit {2}, a {3}, goes to CY and to bit {4}",
+        [binary(a), binary(result), bit, a >> bit & 1, to]),
+    through: (a, result, bit, to, carry) => t("in binary: {0} becomes {1}; CY, which was {2}, goes to bit {3}, and bit {4} to CY",
+        [binary(a), binary(result), carry, to, bit]),
+    inverted: (a, result) => t("in binary: {0} becomes {1}", [binary(a), binary(result)]),
 };
 
 // What comes in place of an instruction.
-const INTERRUPT = "Interrupt";
+const interrupt = () => t("Interrupt");
 
 // What an instruction leaves as it was.
-const KEPT = {none: "No flag changes.", carry: "CY stays as it was.", others: "S, Z, AC and P stay as they were."};
+const KEPT = {
+    none: () => t("No flag changes."), carry: () => t("CY stays as it was."), others: () => t("S, Z, AC and P stay as they were."),
+};
 
 // ---- values
 
@@ -139,8 +177,10 @@ function wordAt(m, at) {
 /** A register's value, or that of the byte in memory at HL, undefined if it isn't known. */
 const valueOf = (m, name) => name === "M" ? m.memory(pair(m, "H")) : m[name];
 
+const byteAt = at => t("the byte at {0}", [word(at)]), wordOf = at => t("the word at {0}", [word(at)]);
+
 /** The name of a place: M says where it is. */
-const placeOf = (m, name) => name === "M" ? `the byte at ${word(pair(m, "H"))}` : name;
+const placeOf = (m, name) => name === "M" ? byteAt(pair(m, "H")) : name;
 
 function put(m, name, value) {
     if (name === "M") store(m, pair(m, "H"), value);
@@ -214,7 +254,7 @@ function count(m, name, by) {
     put(m, name, result);
     const why = {...setByResult(m, result), AC: REASONS.digitWas(value, low)};
     m.AC = Number(isUp === ((value & 15) === low));
-    return {result: (isUp ? RESULTS.up : RESULTS.down)(place, value, 255), why, kept: KEPT.carry};
+    return {result: (isUp ? RESULTS.up : RESULTS.down)(place, value, 255), why, kept: KEPT.carry()};
 }
 
 function countPair(m, name, by) {
@@ -227,7 +267,7 @@ function addPair(m, name) {
     const hl = pair(m, "H"), value = pair(m, name), sum = hl + value;
     setPair(m, "H", sum & 65535);
     m.CY = sum >> 16;
-    return {result: RESULTS.pairs(hl, NAMES[name], value, sum), why: {CY: REASONS.above(sum, 65535)}, kept: KEPT.others};
+    return {result: RESULTS.pairs(hl, NAMES[name], value, sum), why: {CY: REASONS.above(sum, 65535)}, kept: KEPT.others()};
 }
 
 function adjust(m) {
@@ -245,7 +285,7 @@ function rotate(m, isLeft, isAround) {
     m.CY = out;
     const note = isAround ? NOTES.around(a, m.A, bit, to) : NOTES.through(a, m.A, bit, to, carry);
     const why = {CY: REASONS.lost(bit, a)};
-    return {result: RESULTS.rotated(a, isLeft ? "left" : "right", m.A), notes: [note], why, kept: KEPT.others};
+    return {result: RESULTS.rotated(a, isLeft, m.A), notes: [note], why, kept: KEPT.others()};
 }
 
 function invert(m) {
@@ -256,7 +296,7 @@ function invert(m) {
 
 function setCarry(m, value, result, reason) {
     m.CY = value;
-    return {result, why: {CY: reason}, kept: KEPT.others};
+    return {result, why: {CY: reason}, kept: KEPT.others()};
 }
 
 /** Loads a byte into a register, or into M, from somewhere. */
@@ -264,24 +304,24 @@ function load(m, name, value, from = "") {
     if (value === undefined) return null;
     const place = placeOf(m, name);
     put(m, name, value);
-    return {result: RESULTS.got(place, hex(value), from && RESULTS.from(from))};
+    return {result: RESULTS.got(place, hex(value), from)};
 }
 
 function storeAt(m, at, value, name) {
     store(m, at, value);
-    return {result: RESULTS.got(`the byte at ${word(at)}`, hex(value), RESULTS.from(name))};
+    return {result: RESULTS.got(byteAt(at), hex(value), name)};
 }
 
 function loadPair(m, name, value, from = "") {
     setPair(m, name, value);
-    return {result: RESULTS.got(NAMES[name], word(value), from && RESULTS.from(from))};
+    return {result: RESULTS.got(NAMES[name], word(value), from)};
 }
 
 function storePair(m, at) {
     const value = pair(m, "H");
     store(m, at, m.L);
     store(m, at + 1, m.H);
-    return {result: RESULTS.got(`the word at ${word(at)}`, word(value), RESULTS.from("HL"))};
+    return {result: RESULTS.got(wordOf(at), word(value), "HL")};
 }
 
 function exchange(m) {
@@ -296,7 +336,7 @@ function exchangeWithStack(m, after) {
     store(m, sp, hl & 255);
     store(m, sp + 1, hl >> 8);
     setPair(m, "H", top);
-    return {result: RESULTS.exchanged("HL", top, `the word at ${word(sp)}`, hl)};
+    return {result: RESULTS.exchanged("HL", top, wordOf(sp), hl)};
 }
 
 function pushPair(m, name) {
@@ -347,11 +387,11 @@ const WORK = {
     MOV: (m, [to, from], after) => load(m, to, valueOf(m, from) ?? after[to], placeOf(m, from)),
     MVI: (m, [to, value]) => load(m, to, number(value)),
     LXI: (m, [name, value]) => loadPair(m, name, number(value)),
-    LDA: (m, [at], after) => load(m, "A", m.memory(number(at)) ?? after.A, `the byte at ${word(number(at))}`),
+    LDA: (m, [at], after) => load(m, "A", m.memory(number(at)) ?? after.A, byteAt(number(at))),
     STA: (m, [at]) => storeAt(m, number(at), m.A, "A"),
-    LHLD: (m, [at], after) => loadPair(m, "H", wordAt(m, number(at)) ?? pair(after, "H"), `the word at ${word(number(at))}`),
+    LHLD: (m, [at], after) => loadPair(m, "H", wordAt(m, number(at)) ?? pair(after, "H"), wordOf(number(at))),
     SHLD: (m, [at]) => storePair(m, number(at)),
-    LDAX: (m, [name], after) => load(m, "A", m.memory(pair(m, name)) ?? after.A, `the byte at ${word(pair(m, name))}`),
+    LDAX: (m, [name], after) => load(m, "A", m.memory(pair(m, name)) ?? after.A, byteAt(pair(m, name))),
     STAX: (m, [name]) => storeAt(m, pair(m, name), m.A, "A"),
     XCHG: m => exchange(m),
     INR: (m, [name]) => count(m, name, 1),
@@ -419,12 +459,14 @@ function interruption(back, before, after) {
     if (!before.INTE || after.INTE || after.PC % 8 !== 0 || vector > 7) return null;
     call(m, after.PC);
     if (!isSeen(m, after)) return null;
-    return {instruction: INTERRUPT, result: RESULTS.interrupted(vector, back), notes: [], flags: [], kept: KEPT.none};
+    const said = {instruction: interrupt(), result: RESULTS.interrupted(vector, back), notes: [], flags: [], kept: KEPT.none()};
+    return {...said, wrote: m.wrote, isInterrupt: true};
 }
 
 /**
- * What an instruction of a number of bytes did, from the values before and after it: {instruction, result, notes, flags, kept},
- * with each flag that it sets as {name, value, why}. Null if the values after it aren't those that it makes, or it can't be told.
+ * What an instruction of a number of bytes did, from the values before and after it: {instruction, result, notes, flags, kept,
+ * wrote, isInterrupt}, with each flag that it sets as {name, value, why}, and what it has stored as pairs of address and byte. Null
+ * if the values after it aren't those that it makes, or it can't be told.
  */
 export function explain(instruction, length, before, after) {
     const [, mnemonic, operands] = /^(\w+)\s*(.*)$/.exec(instruction.trim()) || [], work = WORK[mnemonic];
@@ -436,5 +478,6 @@ export function explain(instruction, length, before, after) {
     }
     const {result, notes = [], why = {}, kept} = said, flags = FLAGS.filter(name => name in why);
     const told = flags.map(name => ({name, value: m[name], why: why[name]}));
-    return {instruction: instruction.trim(), result, notes, flags: told, kept: kept || (flags.length === 0 ? KEPT.none : "")};
+    const more = {kept: kept || (flags.length === 0 ? KEPT.none() : ""), wrote: m.wrote, isInterrupt: false};
+    return {instruction: instruction.trim(), result, notes, flags: told, ...more};
 }

@@ -5,15 +5,16 @@ import {Sender, makeMail} from "../web/mail.js";
 import {isOneFile} from "../web/place.js";
 import {dropSession, keptSessions, loadSession, saveSession} from "../web/sessions.js";
 import {readSetting, saveSetting} from "./dom.js";
+import {t} from "./language.js";
 import {addressOn} from "./server.js";
 
 export const startsAtOnce = true, hasJournal = false;
 
 // A program that can be suspended is run by a SharedWorker, which hears from several windows. Else a window has a worker of its
 // own, which sleeps while it waits for the window.
-const NO_MEMORY = isOneFile ? "This browser can't suspend programs, and so runs no board of a page that is one file"
-    : "This browser can run a board only if a service worker has isolated the page. Load the page anew";
-const REFUSED = "The browser keeps nothing here, or its room is used up";
+const NO_MEMORY = isOneFile ? t("This browser can't suspend programs, and so runs no board of a page that is one file")
+    : t("This browser can run a board only if a service worker has isolated the page. Load the page anew");
+const REFUSED = t("The browser keeps nothing here, or its room is used up");
 
 const CONNECTING = 0, OPEN = 1, CLOSED = 3;
 
@@ -87,7 +88,7 @@ class Socket {
         if (this.readyState === CLOSED) return;
         const worker = this.worker = new Worker(workers, {name: this.kernel, type: isOneFile ? "classic" : "module"});
         this.sender = null;
-        this.listenTo(worker, worker, message => this.end(`Its worker has failed (${message || "it can't be loaded"})`));
+        this.listenTo(worker, worker, message => this.end(t("Its worker has failed ({0})", [message || t("it can't be loaded")])));
         this.give({mail, kept, ...seen()});
         this.sender = mail && new Sender(mail);
     }
@@ -228,8 +229,8 @@ export async function boards() {
     const locked = held.filter(({name}) => name.startsWith(LOCKS)).map(({name}) => name.slice(LOCKS.length));
     const running = [...new Set([...locked, ...[...sockets].map(({kernel}) => kernel)])];
     const kept = (await keptSessions().catch(() => [])).map(each => each.board).filter(id => !running.includes(id));
-    const named = (ids, more) => ids.map(id => ({id, name: `board ${id.slice(0, 8)}${more}`}));
-    return [...named(running, ""), ...named(kept, ", which is kept")];
+    const named = (ids, form) => ids.map(id => ({id, name: form(id.slice(0, 8))}));
+    return [...named(running, id => t("board {0}", [id])), ...named(kept, id => t("board {0}, which is kept", [id]))];
 }
 
 /** A board begins when it is opened first. Its name has the form of a server's. */
@@ -249,7 +250,7 @@ export const lessons = async () => ({address: addressOn(document.documentElement
 // A whole address has a mebibyte at most, which is what Firefox takes.
 export const MOST_SHARED = (1 << 20) - addressOn("").href.length - "#cell=".length;
 
-const HERE = "the address is that of this page's file. On another computer it opens where the file has the same place";
+const HERE = t("the address is that of this page's file. On another computer it opens where the file has the same place");
 
 export function addressWith(letters) {
     const address = addressOn("");

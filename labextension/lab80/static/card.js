@@ -1,9 +1,9 @@
 // The card of all instructions, beside the notebook.
 
-const TITLES = {
-    transfer: "Loads and copies", arithmetic: "Arithmetic", logical: "Logic", branch: "Jumps, calls, returns",
-    stack: "Stack, input, output, control",
-};
+const titles = t => ({
+    transfer: t("Loads and copies"), arithmetic: t("Arithmetic"), logical: t("Logic"), branch: t("Jumps, calls, returns"),
+    stack: t("Stack, input, output, control"),
+});
 
 let card = null;
 
@@ -23,12 +23,12 @@ function make(lab, {shared, cards}) {
     const made = new lab.modules.widgets.Widget();
     made.id = "lab80-instructions";
     made.title.label = "8080";
-    made.title.caption = "The instructions of the 8080";
+    made.title.caption = lab.t("The instructions of the 8080");
     made.addClass("lab80-instructions");
-    for (const [kind, title] of Object.entries(TITLES)) {
+    for (const [kind, title] of Object.entries(titles(lab.t))) {
         const head = document.createElement("h2");
         head.textContent = title;
-        made.node.append(head, ...shared.WORDS[kind].split(" ").map(word => lab.parts.help.cardElement(cards.card(word))));
+        made.node.append(head, ...shared.WORDS[kind].split(" ").map(word => lab.parts.help.cardElement(lab, cards.inWords(cards.card(word)))));
     }
     return made;
 }

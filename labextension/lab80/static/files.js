@@ -25,32 +25,51 @@ export function tell({modules}, text, milliseconds) {
 // The exports that are used here. Those of another version may lack some.
 const USED = {
     shared: "COLUMN KIND_OF WORDS columnAfter completionsAt instructionAt isPartOfWord namesIn tokenAt".split(" "),
-    errors: "ONLY_LOADED explainError isOnlyLoaded".split(" "),
-    cards: "card textOf".split(" "),
+    errors: "ONLY_LOADED explainError isOnlyLoaded speakBy".split(" "),
+    cards: "card inWords textOf".split(" "), language: "loadTexts t".split(" "),
 };
 
 let loaded = null;
 
-/** The modules {shared, errors, cards}, which are loaded once. If they can't be had the page says so, until that is closed, and
+/** Loads the texts in the page's language, if a kernel of this laboratory is there; else all stays English. */
+export async function loadLanguage(lab) {
+    try {
+        const {address, query} = await place(lab), language = await import(address("language.js", query));
+        const fault = await language.loadTexts(path => address(path, query));
+        if (fault) tell(lab, fault, false);
+        lab.t = language.t;
+    } catch {
+        // what needs the files says that they can't be had
+    }
+}
+
+/** Where the kernel's files are: the name of the kernel, the function that gives a file's address, and what the server wants in it. */
+async function place(lab) {
+    await lab.app.serviceManager.kernelspecs.ready;
+    const [name] = Object.keys(specsOf(lab.app)).filter(isOurs).sort();
+    if (!name) throw new Error(lab.t("this server has no kernel of this name any more"));
+    const address = (file, query) => addressOf(lab, name, file, query);
+    return {name, address, query: await lab.wanted(address("shared.js"))};
+}
+
+/** The modules {shared, errors, cards, language}, which are loaded once. If they can't be had the page says so, until that is closed, and
  *  cells stay plain. */
 export function load(lab) {
     loaded = loaded || loadFiles(lab).catch(fault => {
         const why = fault.message.replace(/\?\S*/, "");
-        tell(lab, `no colours, words for errors or cards: ${why}. Cells run. Load this page anew to try again`, false);
+        tell(lab, lab.t("no colours, words for errors or cards: {0}. Cells run. Load this page anew to try again", [why]), false);
         throw fault;
     });
     return loaded;
 }
 
 async function loadFiles(lab) {
-    await lab.app.serviceManager.kernelspecs.ready;
-    const names = Object.keys(specsOf(lab.app)).filter(isOurs).sort();
-    if (names.length === 0) throw new Error("this server has no kernel of this name any more");
-    const address = (file, query) => addressOf(lab, names[0], `${file}.js`, query);
-    const query = await lab.wanted(address("shared"));
-    const [shared, errors, cards] = await Promise.all(["shared", "errors", "cards"].map(file => import(address(file, query))));
-    compare({shared, errors, cards}, lab.version, versionOf(lab.app, names[0]));
-    return {shared, errors, cards};
+    const {name, address, query} = await place(lab), names = Object.keys(USED);
+    const found = await Promise.all(names.map(file => import(address(`${file}.js`, query))));
+    const files = Object.fromEntries(names.map((file, at) => [file, found[at]]));
+    compare(files, lab.version, versionOf(lab.app, name));
+    for (const {speakBy} of [files.errors, files.cards]) speakBy(lab.t);
+    return files;
 }
 
 /** Notes in the console that the kernelspec's files are of another version than this extension. Fails if they lack something. */

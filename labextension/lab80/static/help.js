@@ -1,23 +1,22 @@
 // Cards of the instructions: beside the mouse, and for the page's own help at the cursor.
 
 /** A card beside the word that the mouse is on. */
-export function hover({modules}, {shared, cards}) {
-    return modules.view.hoverTooltip((view, at) => {
+export function hover(lab, {shared, cards}) {
+    return lab.modules.view.hoverTooltip((view, at) => {
         const line = view.state.doc.lineAt(at), found = shared.instructionAt(line.text, at - line.from);
         const isOnWord = found && found.from <= at - line.from && at - line.from <= found.to;
         if (!isOnWord) return null;
-        const create = () => ({dom: cardElement(cards.card(found.text))});
+        const create = () => ({dom: cardElement(lab, cards.inWords(cards.card(found.text)))});
         return {pos: line.from + found.from, end: line.from + found.to, above: false, create};
     });
 }
 
-/** A card as the front panel shows it. */
-export function cardElement({form, does, flags, bytes, states}) {
+/** A card in words as the front panel shows it. */
+export function cardElement({t}, {form, does, flags, bytes, states}) {
     const made = document.createElement("div");
     made.className = "lab80-card";
-    const length = bytes === 1 ? "1 byte" : `${bytes} bytes`;
-    made.append(element("strong", form), element("p", does), element("p", `Flags: ${flags}`, "lab80-faint"),
-        element("p", `${length}; Intel's states: ${states}`, "lab80-faint"));
+    made.append(element("strong", form), element("p", does), element("p", t("Flags: {0}", [flags]), "lab80-faint"),
+        element("p", t("{0}; Intel's states: {1}", [bytes, states]), "lab80-faint"));
     return made;
 }
 

@@ -13,7 +13,7 @@ export function follow(lab, panel) {
     };
     context.kernelChanged.connect(adopt);
     context.statusChanged.connect((_, status) => {
-        if (status === "autorestarting" && lab.parts.panel.isOn(lab, panel)) tell(lab, ANEW, ANEW_STAYS);
+        if (status === "autorestarting" && lab.parts.panel.isOn(lab, panel)) tell(lab, anew(lab), ANEW_STAYS);
     });
     panel.node.addEventListener("click", event => goToFault(lab, panel, event.target));
     adopt();
@@ -21,8 +21,8 @@ export function follow(lab, panel) {
 
 // What is said of a kernel that nobody has asked to start anew, for so long that it is still there after the page's dialog.
 const ANEW_STAYS = 60000;
-const ANEW = "the kernel was started anew: its journal was full, or it was ended. "
-    + "The panel can restore the board, if it was open";
+const anew = ({t}) => t("the kernel was started anew: its journal was full, or it was ended. "
+    + "The panel can restore the board, if it was open");
 
 /** Listens on the notebook's own connection. */
 function listen(lab, files, panel, kernel) {
@@ -60,7 +60,7 @@ async function noteReply(lab, {errors}, panel, {cellId, text}, {status, ename, e
     if (!view || view.state.doc.toString() !== text) return;
     const fault = status === "error" && ename === "AssemblyError" ? errors.explainError(evalue, text) : null;
     if (fault) lab.faults.showFault(view, fault);
-    else if (status === "ok" && errors.isOnlyLoaded(text)) lab.faults.showNote(view, errors.ONLY_LOADED);
+    else if (status === "ok" && errors.isOnlyLoaded(text)) lab.faults.showNote(view, lab.t(errors.ONLY_LOADED));
 }
 
 const cellWith = (panel, id) => panel.content.widgets.find(({model}) => model && model.id === id);

@@ -24,7 +24,7 @@ function rightHalf() {
 /** Adds the button to a notebook, and shows it as long as the kernel is one of this laboratory's. */
 export function addButton(lab, panel) {
     const button = new lab.modules.apputils.ToolbarButton({
-        label: "8080 panel", tooltip: "Open the front panel and debugger of this board", onClick: () => open(lab, panel),
+        label: lab.t("8080 panel"), tooltip: lab.t("Open the front panel and debugger of this board"), onClick: () => open(lab, panel),
     });
     button.addClass("lab80-panel");
     const show = () => button.setHidden(!isOn(lab, panel));

@@ -11,16 +11,21 @@ export function make(lab) {
             apputils.ICommandPalette, mainmenu.IMainMenu],
         activate(app, languages, tracker, completions, palette, menu) {
             if (!languages || !tracker) return;
-            Object.assign(lab, {app, tracker, files: null});
+            Object.assign(lab, {app, tracker, files: null, t: english});
             lab.parts.looks.add();
             lab.parts.keys.listen(lab);
             addLanguage(lab, languages);
-            addToNotebooks(lab);
+            const speaks = lab.parts.files.loadLanguage(lab);
+            speaks.then(() => addToNotebooks(lab));
             addCommands(lab, palette, menu);
+            speaks.then(() => app.commands.notifyCommandChanged());
             if (completions) addCompletions(lab, completions);
         },
     }];
 }
+
+/** A text in English, as it is before the page's language is loaded. */
+const english = (text, values = []) => text.replace(/\{(\d)\}/g, (_, at) => values[at]);
 
 /** Adopts the notebooks that are open, and those that will be. */
 function addToNotebooks(lab) {
@@ -52,9 +57,10 @@ function addCompletions(lab, manager) {
 function addCommands(lab, palette, menu) {
     const {app, tracker, parts} = lab, isVisible = () => parts.panel.isOn(lab, tracker.currentWidget);
     const commands = {
-        "lab80:open-panel": ["8080 Panel", "Opens the front panel of this notebook's board",
+        "lab80:open-panel": [() => lab.t("8080 Panel"), () => lab.t("Opens the front panel of this notebook's board"),
             () => parts.panel.open(lab, tracker.currentWidget)],
-        "lab80:instructions": ["8080 Instructions", "Shows or hides the card of all instructions", () => parts.card.toggle(lab)],
+        "lab80:instructions": [() => lab.t("8080 Instructions"), () => lab.t("Shows or hides the card of all instructions"),
+            () => parts.card.toggle(lab)],
     };
     for (const [id, [label, caption, execute]] of Object.entries(commands)) {
         app.commands.addCommand(id, {label, caption, isVisible, isEnabled: isVisible, execute});
