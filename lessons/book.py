@@ -3,7 +3,7 @@ import base64
 import html
 import re
 
-from pages import PICTURE, content_of, heading, inline, is_fold, is_items, items, table
+from pages import LINK, PICTURE, content_of, heading, inline, is_fold, is_items, items, table
 
 TITLE = "The Intel 8080 in lessons and exercises"
 
@@ -152,6 +152,9 @@ class Book:
             content = base64.b64encode(content_of(name, kind, self.folder)).decode()
             format_ = "svg+xml" if kind == "svg" else kind
             return f'<p><img src="data:image/{format_};base64,{content}" alt="{html.escape(told)}"></p>'
+        if found := LINK.fullmatch(text):
+            told, name, rest = found.groups()
+            return f"<p>{inline(told)} (<code>{name}</code>){inline(rest)}</p>"
         return f"<p>{inline(text)}</p>"
 
     def page(self, glossary):

@@ -46,7 +46,12 @@ class Glossary:
         return re.sub(r"<strong>(.*?)</strong>", name, text)
 
     def html(self, inline, address):
-        """The words as a list. `inline` makes HTML of a meaning, and `address` gives that of a word in its lesson."""
-        rows = [f'<dt id="{each.anchor()}">{html.escape(each.word)}</dt>\n<dd>{inline(each.meaning)} '
-                f'<a href="{address(each)}">Lesson {each.number()}</a></dd>' for each in self.words]
+        """The words as a list. `inline` makes HTML of a meaning, and `address` gives that of a word in its lesson, or nothing where the
+        lessons may be elsewhere."""
+        def lesson(each):
+            to, name = address(each), f"Lesson {each.number()}"
+            return f'<a href="{to}">{name}</a>' if to else f"<small>{name}</small>"
+
+        rows = [f'<dt id="{each.anchor()}">{html.escape(each.word)}</dt>\n<dd>{inline(each.meaning)} {lesson(each)}</dd>'
+                for each in self.words]
         return "\n".join(["<dl>", *rows, "</dl>"])

@@ -11,6 +11,9 @@ BOOK = Path(__file__).resolve().parent.parent / "web" / "book"
 # A block that is a picture alone.
 PICTURE = re.compile(r"!\[([^]]*)\]\(([\w-]+)\.(png|svg)\)")
 
+# A block that begins with a link to a file beside the lessons.
+LINK = re.compile(r"\[([^]]+)\]\(([\w-]+\.html)\)(.*)", re.S)
+
 # A line of a hint's element, whose text lies between such lines.
 FOLD = re.compile(r"</?details>|<details><summary>([^<]*)</summary>")
 
@@ -102,6 +105,7 @@ class Pages:
     def __init__(self, course, source, glossary):
         self.course, self.source, self.glossary = dict(course), source, glossary
         self.titles = {name: re.match(r"# (.*)", cells[0][0].text)[1] for name, cells in course}
+        # the content of files besides the pages
         self.pictures = {}
 
     def block(self, text):
@@ -118,6 +122,10 @@ class Pages:
             told, name, kind = found.groups()
             self.pictures[f"{name}.{kind}"] = content_of(name, kind, self.source)
             return picture(told, f"{name}.{kind}", self.pictures[f"{name}.{kind}"])
+        if found := LINK.fullmatch(text):
+            told, name, rest = found.groups()
+            self.pictures[name] = (self.source.parent / name).read_bytes()
+            return f'<p><a href="{name}" target="lab80-film">{inline(told)}</a>{inline(rest)}</p>'
         return self.glossary.marked(f"<p>{inline(text)}</p>")
 
     def cell(self, cell, its_id):
