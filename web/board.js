@@ -1,5 +1,6 @@
 // A board: what its program is given, item by item, and what becomes of the answers. It knows neither how the program reads nor
 // how windows are reached. Each piece of its work is a generator that yields an item and gets the answer.
+import {later} from "../language.js";
 import {
     MOST_BYTES, Reader, bytesOf, joinItem, leaveItem, messageBytes, messageItem, numberOf, postOf, runItem, subscribeItem, textOf,
 } from "./wire.js";
@@ -15,7 +16,7 @@ const MOST_TEXTS = 20, MOST_CHARACTERS = 500000;
 // What a slice is in the progress of a session that is played again, and any other item.
 const SLICE = 1, ITEM = 10;
 
-const TOO_MANY = "Sixteen windows look at this board, which is the most";
+const TOO_MANY = later("Sixteen windows look at this board, which is the most");
 const moment = () => Math.floor(Date.now() / 1000);
 
 export class Board {
@@ -74,7 +75,7 @@ export class Board {
     /** Takes a message of a window, in the form of a server's WebSocket. Returns a sentence if it is too long for the program. */
     send(window, message) {
         const {length} = bytesOf(JSON.stringify(message.content));
-        if (length > MOST_BYTES) return `A message of ${length} bytes is too long for the board: ${MOST_BYTES} are the most`;
+        if (length > MOST_BYTES) return later("A message of {0} bytes is too long for the board: {1} are the most", [length, MOST_BYTES]);
         this.plans.push(this.sending(window, message));
         return "";
     }

@@ -1,5 +1,6 @@
 // Runs lab80_web, a program in WebAssembly whose only imports are `read` and `write`. While it waits for input it is suspended
 // (JavaScript Promise Integration), or, where the browser has no such thing, this worker sleeps.
+import {later, t} from "../language.js";
 import {canSuspend} from "./abilities.js";
 import {Reader, textOf} from "./wire.js";
 
@@ -18,14 +19,23 @@ function isOurs(module) {
     return EXPORTS.every(each => has.includes(each)) && wants.every(each => IMPORTS.includes(each));
 }
 
-/** Loads the module. Fails with an Error that says why it can't be used. */
-export async function loadModule(address) {
-    const reply = await fetch(address).catch(() => ({ok: false, status: 0}));
-    if (!reply.ok) throw new Error(`file ${address} isn't there${reply.status ? ` (${reply.status})` : ""}`);
+/** Why a module can't be used: `why` is a text that is translated where it is shown. */
+class Unusable extends Error {
+    constructor(text, values) {
+        super(t(text, values));
+        this.why = later(text, values);
+    }
+}
+
+/** Loads the module at an address, which may be a URL. Fails with an Unusable. */
+export async function loadModule(place) {
+    const address = String(place), reply = await fetch(address).catch(() => ({ok: false, status: 0}));
+    if (!reply.ok && !reply.status) throw new Unusable(later("Its file {0} isn't there"), [address]);
+    if (!reply.ok) throw new Unusable(later("Its file {0} isn't there ({1})"), [address, reply.status]);
     const module = await WebAssembly.compile(await reply.arrayBuffer()).catch(fault => {
-        throw new Error(`file ${address} is damaged (${fault.message})`);
+        throw new Unusable(later("Its file {0} is damaged ({1})"), [address, fault.message]);
     });
-    if (!isOurs(module)) throw new Error(`file ${address} is another program's`);
+    if (!isOurs(module)) throw new Unusable(later("Its file {0} is another program's"), [address]);
     return module;
 }
 
@@ -73,9 +83,10 @@ export async function runProgram(module, board, opening, host) {
     streams.memory = exports.memory;
     try {
         const main = canSuspend ? WebAssembly.promising(exports.main) : exports.main, status = await main(0, 0n);
-        return `program has ended with ${status}${streams.said ? `: ${streams.said.trim()}` : ""}`;
+        const said = streams.said.trim();
+        return said ? later("Its program has ended with {0}: {1}", [status, said]) : later("Its program has ended with {0}", [status]);
     } catch (fault) {
-        return `program has failed (${fault.message})`;
+        return later("Its program has failed ({0})", [fault.message]);
     }
 }
 

@@ -39,9 +39,10 @@ function contents() {
 }
 
 async function beginPage() {
-    const {files, program, modules, paths} = contents(), page = location.href.replace(/[?#][^]*$/, ""), addresses = {"": page};
+    const {files, packed, program, modules, paths} = contents(), page = location.href.replace(/[?#][^]*$/, ""), addresses = {"": page};
     files["web/worker.js"] = {type: "text/javascript", text: workerText({page, program, modules, paths: paths.worker})};
     for (const [path, {type, text}] of Object.entries(files)) addresses[path] = URL.createObjectURL(new Blob([text], {type}));
+    for (const [path, letters] of Object.entries(packed)) addresses[path] = await unpacked(letters);
     link(modules, paths.page, addresses);
     await import(addresses["panel/main.js"]);
     (await import(addresses["web/extras.js"])).begin(null);

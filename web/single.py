@@ -12,14 +12,16 @@ import re
 from pathlib import Path
 
 HERE = Path(__file__).resolve().parent
-SPEC, CARD = HERE.parent / "kernelspec", HERE.parent / "lessons/card.html"
+SPEC, LESSONS = HERE.parent / "kernelspec", HERE.parent / "lessons"
 
 # What the worker begins with, and what the page does. What they import decides which modules there are, but for web/place.js,
 # which web/single.js writes.
 WORKER, PAGE = ["web/worker.js"], ["panel/main.js", "web/extras.js"]
 PLACE = "web/place.js"
 # The files besides modules: how each is named in the site, its type, and where it is.
-FILES = {"examples.json": ("application/json", SPEC / "examples.json"), "card.html": ("text/html;charset=utf-8", CARD)}
+TO_READ = {name: ("text/html;charset=utf-8", LESSONS / name) for name in ("card.html", "glossary.html")}
+FILES = {"examples.json": ("application/json", SPEC / "examples.json"), **TO_READ}
+LANGUAGES = sorted((SPEC / "languages").glob("*.json"))
 STYLES = (SPEC / "panel/panel.css", HERE / "site.css")
 ICON = "logo-32x32.png"
 
@@ -62,15 +64,20 @@ def add(path, modules, order, above=()):
     order.append(path)
 
 
+def packed(path):
+    """A file by gzip, and as letters."""
+    return base64.b64encode(gzip.compress(path.read_bytes(), mtime=0)).decode()
+
+
 def contents(module):
     """All files but the page itself, as web/single.js reads them."""
     modules, paths = {}, {"worker": [], "page": []}
     for order, beginnings in zip(paths.values(), (WORKER, PAGE)):
         for path in beginnings:
             add(path, modules, order)
-    letters = base64.b64encode(gzip.compress(module.read_bytes(), mtime=0)).decode()
     return {"files": {name: {"type": kind, "text": path.read_text(encoding="utf-8")} for name, (kind, path) in FILES.items()},
-            "program": {"path": f"web/{module.name}", "letters": letters}, "modules": modules, "paths": paths}
+            "packed": {f"languages/{path.name}": packed(path) for path in LANGUAGES},
+            "program": {"path": f"web/{module.name}", "letters": packed(module)}, "modules": modules, "paths": paths}
 
 
 def hash_of(text):
@@ -85,8 +92,8 @@ def policy(script, *styles):
 
 
 def head(script, style):
-    [of_card] = STYLE.findall(CARD.read_text(encoding="utf-8"))
-    return f"""<meta http-equiv="Content-Security-Policy" content="{policy(script, style, of_card)}">
+    styles = [text for _, path in TO_READ.values() for text in STYLE.findall(path.read_text(encoding="utf-8"))]
+    return f"""<meta http-equiv="Content-Security-Policy" content="{policy(script, style, *styles)}">
 <meta name="referrer" content="no-referrer">
 <meta name="description" content="An Intel 8080 computer to program and debug, in one file.">
 <style>{style}</style>

@@ -1,5 +1,6 @@
 // The worker of a board, whose name is the board's. As a SharedWorker it lives as long as a window has the board; where browsers
 // have none, or can't suspend a program, each window has a Worker, and a board one window.
+import {later} from "../language.js";
 import {Board} from "./board.js";
 import {Receiver} from "./mail.js";
 import {addressOf} from "./place.js";
@@ -30,7 +31,8 @@ const tellAll = told => { for (const each of windows.keys()) each.postMessage(to
 
 // ---- keeping the session
 
-const TOO_LONG = "It has become too long to be kept", REFUSED = "The browser keeps nothing here, or its room is used up";
+const TOO_LONG = later("It has become too long to be kept");
+const REFUSED = later("The browser keeps nothing here, or its room is used up");
 const keeping = {last: 0, isUnder: false, isRefused: false};
 
 /** Keeps what the session has more than what is kept. A worker that sleeps has its window do that. */
@@ -73,7 +75,7 @@ const host = {
         windows.delete(port);
         port.postMessage({type: "refused", why});
     },
-    ended: isRestart => isRestart ? restart() : end("It was shut down"),
+    ended: isRestart => isRestart ? restart() : end(later("It was shut down")),
     listen(patience) {
         for (let text = pages.mail.receive(patience); text !== null; text = pages.mail.receive()) take(self, JSON.parse(text));
         if (performance.now() - keeping.last > KEEP_EVERY) tick();
@@ -98,9 +100,9 @@ async function begin(kept) {
     try {
         module = module || await loadModule(addressOf(MODULE));
         const why = await runProgram(module, board, opening(), host);
-        if (!mine.isOver) end(`Its ${why}`);
+        if (!mine.isOver) end(why);
     } catch (fault) {
-        if (!mine.isOver) end(`Its ${fault.message}`);
+        if (!mine.isOver) end(fault.why || later("Its program has failed ({0})", [fault.message]));
     }
 }
 

@@ -1,4 +1,5 @@
 // The board on which a lesson's cells run: the connection to it, the cells that run or wait, and debug requests.
+import {t} from "../language.js";
 import {readSetting, saveSetting} from "../panel/dom.js";
 import {emit} from "../panel/signals.js";
 import {transport} from "../panel/transport.js";
@@ -86,11 +87,11 @@ function dropAll() {
 
 const tasks = {
     progress: ({part}) => say(`made again: ${Math.floor(100 * part)} %`),
-    ended({why}) { ending = why; },
+    ended({why}) { ending = t(why); },
     anew: () => connect(board.kernel),
     elsewhere: () => say("another window has this board"),
     here: () => isOpen() || say("connecting"),
-    told: ({why}) => tell(why),
+    told: ({why}) => tell(t(why)),
 };
 
 if (transport.listen) transport.listen(({kernel, type, ...told}) => kernel === board.kernel && tasks[type] && tasks[type](told));
