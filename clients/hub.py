@@ -1,5 +1,5 @@
 """A class below JupyterHub, as deploy/begin serves it: on this machine, but with accounts, homes and kept files of its own, which
-are gone when it ends; and its visitors, by the cookies of a browser."""
+are gone when it ends; and its visitors, by the cookies of a browser. On Debian 13 it is `trixie.Hub5`."""
 import concurrent.futures
 import glob
 import http.cookiejar
@@ -8,6 +8,7 @@ import os
 import re
 import shutil
 import subprocess
+import unittest
 import urllib.error
 import urllib.parse
 import urllib.request
@@ -20,6 +21,7 @@ from ports import SIZE, free_port, is_free
 TOP = os.path.dirname(os.path.dirname(os.path.abspath(__file__)))
 
 SPEC = "/usr/share/jupyter/kernels/lab80"
+EXTENSION = "/usr/share/jupyter/labextensions/lab80"
 DEPLOY = "/usr/share/lab80/deploy"
 STATE = "/var/lib/lab80"
 
@@ -37,6 +39,21 @@ SERVES = """
 mkdir -p {state} && cp "$0/more" {state}/more_config.py || exit
 while {deploy}/begin --serve "$0/list"; [ -e "$0/again" ]; do rm "$0/again"; done"""
 
+# Runs a cell on the kernel of a connection file, and ends once the cell is busy.
+RUN = """
+import sys
+from jupyter_client import BlockingKernelClient
+client = BlockingKernelClient(connection_file=sys.argv[1])
+client.load_connection_file()
+client.start_channels()
+client.wait_for_ready(timeout=60)
+cell = client.execute(sys.argv[2])
+while True:
+    message = client.get_iopub_msg(timeout=60)
+    if message["parent_header"].get("msg_id") == cell and message["content"].get("execution_state") == "busy":
+        break
+"""
+
 APART = ["unshare", "--mount", "--pid", "--fork", "--kill-child", "--mount-proc"]
 
 # Ends a command with the process that started it.
@@ -44,12 +61,6 @@ ENDING = ["setpriv", "--pdeathsig", "KILL"]
 
 # A field of a form that the hub's pages ask to be sent back, from JupyterHub 4.1 on.
 FIELD = re.compile(r'<input[^>]*name="(_xsrf|scopes)"[^>]*value="([^"]*)"')
-
-
-def can_be_had():
-    """Whether this process may make such a place, and the hub is installed."""
-    tried = subprocess.run([*APART, "true"], capture_output=True, check=False)
-    return os.geteuid() == 0 and tried.returncode == 0 and shutil.which("jupyterhub") and shutil.which("configurable-http-proxy")
 
 
 def free_ports():
@@ -63,8 +74,10 @@ def free_ports():
 
 
 def lay_out(folder):
-    """Puts below a folder what the package has for a hub: the kernel, the lessons and deploy."""
-    shutil.copytree(get_kernel_spec("lab80").resource_dir, folder + SPEC)
+    """Puts below a folder what the package has for a hub: the kernel, JupyterLab's extension, the lessons and deploy."""
+    spec = get_kernel_spec("lab80").resource_dir
+    shutil.copytree(spec, folder + SPEC)
+    shutil.copytree(os.path.join(spec, "../../labextensions/lab80"), folder + EXTENSION)
     with open(folder + SPEC + "/kernel.json", "r+", encoding="utf-8") as file:
         spec = json.load(file)
         spec["argv"][1] = SPEC + "/start"
@@ -81,25 +94,45 @@ def lay_out(folder):
 class Hub:
     """A hub with a class. It ends with a `with`, and all that it has started."""
 
+    # The first page of a student's server.
+    FRONT = "tree"
+
+    @staticmethod
+    def needed():
+        """Passes over the tests of a class if this process can't make such a place, or the hub isn't installed."""
+        tried = subprocess.run([*APART, "true"], capture_output=True, check=False)
+        programs = "jupyterhub", "configurable-http-proxy"
+        if os.geteuid() != 0 or tried.returncode != 0 or not all(map(shutil.which, programs)):
+            raise unittest.SkipTest("it needs root, namespaces, and Debian's jupyterhub")
+
     def __init__(self, folder, people, more=""):
         """The class is a list as begin takes it; `more` are settings of the hub."""
         os.chmod(folder, 0o755)
         os.mkdir(os.path.join(folder, "own"))
         lay_out(folder)
-        self.folder, self.port = folder, free_ports()
-        self.base = f"http://127.0.0.1:{self.port}"
+        self.folder, self.base = folder, self.address()
         self.list, self.log = os.path.join(folder, "list"), os.path.join(folder, "hub.log")
         with open(self.list, "w", encoding="utf-8") as file:
             file.write(people)
         with open(os.path.join(folder, "more"), "w", encoding="utf-8") as file:
             file.write(more)
-        begin = SERVES.format(state=STATE, deploy=DEPLOY)
+        # A busy machine may not start the proxy within JupyterHub's ten seconds. Then it is tried once more, as systemd does.
+        with open(os.path.join(folder, "again"), "w", encoding="ascii"):
+            pass
         # Node of another maker than Debian doesn't search the folder of Debian's modules.
         self.environment = {"PATH": "/usr/sbin:/usr/bin:/sbin:/bin", "LANG": "C.UTF-8", "HOME": "/root",
                             "NODE_PATH": "/usr/share/nodejs", "LAB80_HUB": self.base}
+        command = self.command("sh", "-c", SERVES.format(state=STATE, deploy=DEPLOY), folder)
         with open(self.log, "wb") as log:
-            self.process = subprocess.Popen([*ENDING, *APART, "sh", "-c", PLACE, folder, "sh", "-c", begin, folder],
-                                            cwd="/", stdin=subprocess.DEVNULL, stdout=log, stderr=log, env=self.environment)
+            self.process = subprocess.Popen(command, cwd="/", stdin=subprocess.DEVNULL, stdout=log, stderr=log,
+                                            env=self.environment)
+
+    def address(self):
+        return f"http://127.0.0.1:{free_ports()}"
+
+    def command(self, *words):
+        """The command that runs these words in the hub's place, and ends with this process."""
+        return [*ENDING, *APART, "sh", "-c", PLACE, self.folder, *words]
 
     def __enter__(self):
         try:
@@ -112,7 +145,10 @@ class Hub:
         return self
 
     def __exit__(self, *_):
-        left = [] if self.has_ended() else self.processes()
+        try:
+            left = self.processes()
+        except OSError:
+            left = []
         self.process.kill()
         self.process.wait(60)
         wait_until(lambda: not any(os.path.exists(f"/proc/{process}") for process in left), 60)
@@ -132,7 +168,9 @@ class Hub:
     def first(self):
         """The number of its first process, with which all others end."""
         with open(f"/proc/{self.process.pid}/task/{self.process.pid}/children", encoding="ascii") as file:
-            return int(file.read().split()[0])
+            for number in file.read().split():
+                return int(number)
+        raise ProcessLookupError("it hasn't begun yet, or has ended")
 
     def processes(self):
         """The numbers of all its processes."""
@@ -158,10 +196,13 @@ class Hub:
         wait_until(lambda: not os.path.exists(f"/proc/{before}"), 60)
         wait_until(lambda: Visitor(self).ask("GET", "/hub/api/")[0] == 200, 240)
 
+    def entry(self):
+        """The words before a command that is to run in the hub's place."""
+        return ["nsenter", f"--target={self.first()}", "--mount", "--pid"]
+
     def call(self, *words):
         """Runs a command in the hub's place. Returns its status and what it prints."""
-        inside = ["nsenter", f"--target={self.first()}", "--mount", "--pid"]
-        done = subprocess.run([*inside, *words], capture_output=True, text=True, timeout=60, check=False, env=self.environment)
+        done = subprocess.run([*self.entry(), *words], capture_output=True, text=True, timeout=60, check=False, env=self.environment)
         return done.returncode, done.stdout + done.stderr
 
     def change_class(self, people):
@@ -169,6 +210,13 @@ class Hub:
         with open(self.list, "w", encoding="utf-8") as file:
             file.write(people)
         return self.call(f"{DEPLOY}/begin", self.list)
+
+    def run_cell(self, name, board, text):
+        """Has a student's board run a cell, as a notebook does. Returns once the cell runs."""
+        connection = f"/home/{name}/.local/share/jupyter/runtime/kernel-{board}.json"
+        done, told = self.call("runuser", "-u", name, "--", "/usr/bin/python3", "-B", "-c", RUN, connection, text)
+        if done != 0:
+            raise ChildProcessError(told)
 
     def log_in(self, people, seconds=600):
         """Logs in several persons at once, as a class does: names and passwords. Returns them by name, each with a server.
@@ -240,7 +288,7 @@ class Visitor:
 
     def enter(self):
         """Opens the server's page, with which it knows this visitor."""
-        status, where, _ = self.page(self.at("tree"))
+        status, where, _ = self.page(self.at(self.hub.FRONT))
         if status != 200 or not where.startswith(self.at("")):
             raise ValueError(f"{self.name} sees {status} {where}\n{self.hub.told_of(self.name)}")
         return self
@@ -288,6 +336,6 @@ def threads(process):
 
 def is_kernel(process):
     try:
-        return os.readlink(f"/proc/{process}/exe") == SPEC + "/lab80"
+        return os.readlink(f"/proc/{process}/exe").endswith(SPEC + "/lab80")
     except OSError:
         return False

@@ -33,21 +33,6 @@ NOTEBOOK = "03-jumps.ipynb"
 BOARD = "kernelspecs/lab80/panel.html"
 ENDLESS = " ORG 100H\nX: INR B\n JMP X\n END X"
 
-# Runs a cell on the kernel of a connection file, and ends once the cell is busy.
-RUN = """
-import sys
-from jupyter_client import BlockingKernelClient
-client = BlockingKernelClient(connection_file=sys.argv[1])
-client.load_connection_file()
-client.start_channels()
-client.wait_for_ready(timeout=60)
-cell = client.execute(sys.argv[2])
-while True:
-    message = client.get_iopub_msg(timeout=60)
-    if message["parent_header"].get("msg_id") == cell and message["content"].get("execution_state") == "busy":
-        break
-"""
-
 # Fills in the hub's form, and sends it.
 LOG_IN = """
     const [name, word] = arguments;
@@ -64,11 +49,12 @@ def where(browser):
 class Class(unittest.TestCase):
     """All tests are of one hub, whose class has logged in at once."""
 
+    hub_class = hub.Hub
+
     @classmethod
     def setUpClass(cls):
-        if not hub.can_be_had():
-            raise unittest.SkipTest("it needs root, namespaces, and Debian's jupyterhub")
-        cls.hub = cls.enterClassContext(hub.Hub(cls.enterClassContext(tempfile.TemporaryDirectory()), LIST, MORE))
+        cls.hub_class.needed()
+        cls.hub = cls.enterClassContext(cls.hub_class(cls.enterClassContext(tempfile.TemporaryDirectory()), LIST, MORE))
         cls.class_ = cls.hub.log_in({name: WORDS[name] for name in STUDENTS})
         cls.boards = {name: visitor.start_board(NOTEBOOK) for name, visitor in cls.class_.items()}
         cls.teacher = hub.Visitor(cls.hub).log_in("teacher", WORDS["teacher"])
@@ -159,12 +145,6 @@ class Class(unittest.TestCase):
         self.assertEqual(self.hub.call("id", "-u", "gone"), number)
         self.assertNotEqual(self.hub.call("id", "-u", "next"), number)
 
-    def run_in_notebook(self, name, text):
-        """Has a student's board run a cell, as a notebook does. Returns once the cell runs."""
-        connection = f"/home/{name}/.local/share/jupyter/runtime/kernel-{self.boards[name]}.json"
-        done, told = self.hub.call("runuser", "-u", name, "--", sys.executable, "-B", "-c", RUN, connection, text)
-        self.assertEqual(done, 0, told)
-
     def log_in(self, browser, path, name):
         """Opens an address of the hub, and logs in there, as the hub asks."""
         browser.open(self.hub.base + path)
@@ -183,7 +163,7 @@ class Class(unittest.TestCase):
             page.prints("hello, world\n")
 
     def test_a_teacher_opens_a_students_board(self):
-        self.run_in_notebook("s04", ENDLESS)
+        self.hub.run_cell("s04", self.boards["s04"], ENDLESS)
         wait_until(lambda: self.rows()["s04"][:3] == ["runs", NOTEBOOK, "runs or waits"])
         with Browser(free_port(), 1000, 1100) as browser:
             self.log_in(browser, "/services/class/", "teacher")

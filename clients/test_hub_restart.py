@@ -38,12 +38,12 @@ class Hub(unittest.TestCase):
     """All tests are of one hub, which serves again after each."""
 
     seconds = 900
+    hub_class = hub.Hub
 
     @classmethod
     def setUpClass(cls):
-        if not hub.can_be_had():
-            raise unittest.SkipTest("it needs root, namespaces, and Debian's jupyterhub")
-        cls.hub = cls.enterClassContext(hub.Hub(cls.enterClassContext(tempfile.TemporaryDirectory()), LIST))
+        cls.hub_class.needed()
+        cls.hub = cls.enterClassContext(cls.hub_class(cls.enterClassContext(tempfile.TemporaryDirectory()), LIST))
 
     def setUp(self):
         self.browser = self.enterContext(Browser(free_port(), 1250, 1130))
@@ -101,7 +101,7 @@ class Hub(unittest.TestCase):
         self.works(page)
         again = Page(self.browser, page.run("return location.href"))
         again.is_in("idle")
-        again.waits(lambda: "hello" in again.text("#source"))
+        again.waits(lambda: "hello" in again.source())
 
     def test_a_notebook_below_a_hub_that_ends(self):
         """Its cell still runs, and can be interrupted."""

@@ -108,6 +108,9 @@ c.Spawner.notebook_dir = "~/lessons"
 
 c.Spawner.start_timeout = c.Spawner.http_timeout = 120
 
+# A page of a server that has ended starts it again, without a question.
+c.JupyterHub.implicit_spawn_seconds = 0.5
+
 # With cull_busy a forgotten program ends too: one that runs or waits is busy for ever.
 application = "NotebookApp" if is_notebook_6 else "ServerApp"
 c.Spawner.args = [f"--MappingKernelManager.cull_idle_timeout={FORGOTTEN}", f"--MappingKernelManager.cull_interval={LOOKS}",
