@@ -8,14 +8,18 @@ import unittest
 import unittest.mock
 
 import firefox
+import test_languages
 import test_panel
 import test_panel_anew
+import test_panel_cell
 import test_panel_devices
+import test_panel_map
 import test_panel_programs
 import test_panel_restore
 import test_panel_seeing
 import test_panel_users
 import test_panel_walk
+import test_panel_warnings
 from browser import wait_until
 from panel_tests import HERE
 from ports import free_port
@@ -81,6 +85,13 @@ class Programs(InFirefox, test_panel_programs.Programs):
     pass
 
 
+@only("a_program_is_shown_once", "breakpoints_before_the_first_run", "keys_lead_into_the_margin_and_out_of_the_cell",
+      "to_the_line_of_the_caret", "edits_move_breakpoints", "a_text_that_was_edited_has_no_current_line",
+      "a_long_text_is_drawn_where_it_is_seen", "a_mebibyte", "cards", "what_is_drawn_is_the_text")
+class Cell(InFirefox, test_panel_cell.Cell):
+    pass
+
+
 @only("screens_of_dots", "digits_and_segments", "what_the_user_chooses_is_kept_for_the_program")
 class Devices(InFirefox, test_panel_devices.Devices):
     pass
@@ -91,8 +102,23 @@ class Keys(InFirefox, test_panel_devices.Keys):
     pass
 
 
-@only("bases", "the_map_of_memory", "dresses_of_the_lamps", "run_is_above_the_fold")
+@only("bases", "dresses_of_the_lamps", "run_is_above_the_fold")
 class Seeing(InFirefox, test_panel_seeing.Seeing):
+    pass
+
+
+@only("all_of_memory", "a_page_of_it", "it_follows_a_run")
+class Map(InFirefox, test_panel_map.Map):
+    pass
+
+
+@only("a_stack_that_isnt_balanced", "code_that_is_overwritten")
+class Warned(InFirefox, test_panel_warnings.Warned):
+    pass
+
+
+@only("german")
+class Languages(InFirefox, test_languages.InLanguages):
     pass
 
 

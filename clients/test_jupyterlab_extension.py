@@ -393,6 +393,28 @@ class Boards(Lab):
         self.tells("300", "A byte is 0 to 255 or -256 to -1.")
 
 
+class InGerman(Lab):
+    """The page in another language, which the browser keeps for all pages of the server."""
+
+    def setUp(self):
+        super().setUp()
+        # the tests after this one load the page anew
+        self.addClassCleanup(self.browser.open, "about:blank")
+        self.open("german", FAULTY)
+        self.browser.run("localStorage.setItem('lab80 language', 'de')")
+        self.addCleanup(self.browser.run, "localStorage.removeItem('lab80 language')")
+        self.browser.open("about:blank")
+        self.open("german", FAULTY, "NOP")
+
+    def test_errors_the_button_and_the_commands(self):
+        self.page.shows(lambda: self.shown(FRONT + ".lab80-panel"), ["8080-Panel"])
+        self.page.run_cell(0)
+        self.tells("START", "Eine Marke endet mit einem Doppelpunkt: START:")
+        self.page.run_cell(1)
+        self.tells("", "geladen, nicht gestartet: END nennt keinen Anfang", number=1)
+        self.assertEqual(self.browser.run("return jupyterapp.commands.label('lab80:open-panel')"), "8080-Panel")
+
+
 class BelowAHub(Lab):
     """With a server that refuses what a script asks for without the cookie's value, and with an extension that isn't of the
     kernel's version."""

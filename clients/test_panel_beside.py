@@ -24,23 +24,43 @@ SMALL = """
 
 # How far the page, or what isn't in a list of its own, goes beyond the window's right edge.
 TOO_WIDE = """
-    const isList = each => each.closest('.listing, pre, textarea, .frames, .names');
+    const isList = each => each.closest('.listing, pre, .editor, .frames, .names');
     const seen = [...document.body.querySelectorAll('*')].filter(each => each.checkVisibility() && !isList(each));
     return Math.max(document.documentElement.scrollWidth, ...seen.map(each => each.getBoundingClientRect().right)) - innerWidth;"""
 
-# The contrast of a text with what is behind it.
-CONTRAST = """
-    const luminance = colour => {
-        const parts = colour.match(/[\\d.]+/g).slice(0, 3).map(each => each / 255);
-        const [r, g, b] = parts.map(each => each <= 0.04045 ? each / 12.92 : ((each + 0.055) / 1.055) ** 2.4);
+# The contrast of a text with what is behind it: that of an element, and all texts with less than 4.5. What is dimmed or can't be
+# pressed isn't to be read, and the front panel's metal has several colours.
+COLOURS = """
+    const pen = new OffscreenCanvas(1, 1).getContext('2d', {willReadFrequently: true});
+    const partsOf = colour => {
+        pen.clearRect(0, 0, 1, 1);
+        pen.fillStyle = colour;
+        pen.fillRect(0, 0, 1, 1);
+        return [...pen.getImageData(0, 0, 1, 1).data];
+    };
+    const over = ([r, g, b, a], under) => [r, g, b].map((each, at) => (each * a + under[at] * (255 - a)) / 255);
+    const behind = element => {
+        if (!element) return [255, 255, 255];
+        const parts = partsOf(getComputedStyle(element).backgroundColor);
+        return parts[3] === 255 ? parts.slice(0, 3) : over(parts, behind(element.parentElement));
+    };
+    const luminance = parts => {
+        const [r, g, b] = parts.map(each => each / 255).map(each => each <= 0.04045 ? each / 12.92 : ((each + 0.055) / 1.055) ** 2.4);
         return 0.2126 * r + 0.7152 * g + 0.0722 * b + 0.05;
     };
-    const element = document.querySelector(arguments[0]);
-    const isClear = each => /, 0\\)|transparent/.test(getComputedStyle(each).backgroundColor);
-    let behind = element;
-    while (isClear(behind)) behind = behind.parentElement;
-    const [one, other] = [getComputedStyle(element).color, getComputedStyle(behind).backgroundColor].map(luminance);
-    return Math.max(one, other) / Math.min(one, other);"""
+    const contrast = element => {
+        const under = behind(element), text = over(partsOf(getComputedStyle(element).color), under);
+        const [one, other] = [text, under].map(luminance);
+        return Math.max(one, other) / Math.min(one, other);
+    };"""
+CONTRAST = COLOURS + "return contrast(document.querySelector(arguments[0]));"
+TOO_FAINT = COLOURS + """
+    const hasText = each => [...each.childNodes].some(node => node.nodeType === 3 && node.data.trim() !== '');
+    const isLeftOut = each => each.closest('.metal, :disabled, textarea, [aria-hidden=true]')
+        || [...document.querySelectorAll('.past, .old')].some(dimmed => dimmed.contains(each));
+    const seen = [...document.body.querySelectorAll('*')].filter(each => hasText(each) && each.checkVisibility() && !isLeftOut(each));
+    return seen.filter(each => contrast(each) < 4.5).map(each => [each.id || each.className || each.tagName, each.textContent.slice(0, 30),
+        Math.round(contrast(each) * 100) / 100]);"""
 
 FOLDED = "return [...document.querySelectorAll('section.folded .fold')].map(each => each.id)"
 SEEN = "return document.querySelector(arguments[0]).checkVisibility()"
@@ -143,20 +163,40 @@ class Beside(Pages):
         page.picture("panel-forced", 1140, 890)
 
 
-    def test_contrast_of_small_texts(self):
+    def test_contrast_of_all_texts(self):
         page = self.beside()
         self.addCleanup(self.browser.prefer, "light")
+        page.run("for (const each of document.querySelectorAll('details')) each.open = true")
         for scheme in ("light", "dark"):
             self.browser.prefer(scheme)
+            self.assertEqual(page.run(TOO_FAINT), [], scheme)
             for selector in ("#keys p", "#source .current .gutter", "#code .current .faint", "#frames [aria-current=true] .where",
                              "#registers-section h2", "#source .comment", "#alone"):
                 self.assertGreaterEqual(page.run(CONTRAST, selector), 4.5, (scheme, selector))
+            page.click("#show-map")
+            page.waits(lambda: page.text("#map-told"))
+            self.assertEqual(page.run(TOO_FAINT), [], scheme)
+            page.click("#map-close")
+
+    def test_every_control_has_a_name(self):
+        page = self.beside()
+        nameless = """
+            const named = each => each.getAttribute('aria-label') || each.textContent.trim() || each.title || each.closest('label')
+                || each.labels && each.labels.length > 0 || each.getAttribute('aria-labelledby');
+            return [...document.querySelectorAll('button, select, input, textarea, a[href], [tabindex="0"]')]
+                .filter(each => !named(each)).map(each => each.id || each.outerHTML.slice(0, 80));"""
+        # this one gets its name with the question
+        self.assertEqual(page.run(nameless), ["question-yes"])
 
     def test_names_are_said_apart_from_their_numbers(self):
         page = self.beside()
         names = "return [...document.querySelectorAll(arguments[0])].map(each => each.getAttribute('aria-label'))"
         page.waits(lambda: "TWICE, 010A" in page.run(names, "#symbols button"))
         self.assertEqual(page.run(names, "#frames button"), ["main, line 2, 0100H"])
+        page.run("document.getElementById('watch-place').value = 'HL'")
+        page.click("#watching button")
+        page.waits(lambda: page.run(names, "#watched button:first-child"))
+        self.assertRegex(page.run(names, "#watched button:first-child")[0] or "", "^HL, ")
 
 
 class FirstVisit(Pages):
@@ -190,6 +230,12 @@ class FirstVisit(Pages):
             self.browser.open(address)
             self.assertIn("MOV", self.browser.run("return document.body.textContent"))
         page = self.open(self.kernel)
+        with self.subTest("the glossary"):
+            address = page.run("return document.getElementById('to-glossary').href")
+            self.browser.open(address)
+            self.assertIn("SP, the register", self.browser.run("return document.querySelector('#stack-pointer + dd').textContent"))
+            self.assertEqual(self.browser.run(TOO_FAINT), [])
+        page = self.open(self.kernel)
         page.click("#to-lessons")
         page.says("Lessons: they are notebooks, and this server's folder has none. Copy the folder lessons there")
 
@@ -204,25 +250,26 @@ class FirstVisit(Pages):
         page = self.open()
         page.is_in("idle")
         page.run("setCell('START:  MVI A,5 ; five\\n        END START\\n')")
-        words = "return [...document.querySelectorAll('#behind span[class]')].map(each => [each.textContent, each.className])"
+        words = "return [...document.querySelectorAll('#coloured span[class]')].map(each => [each.textContent, each.className])"
         self.assertEqual(page.run(words)[:5], [["START", "label"], ["MVI", "transfer"], ["A", "register"], ["5", "number"],
                                                ["; five", "comment"]])
-        self.assertEqual(page.run("return document.getElementById('behind').textContent.trimEnd()"), page.run(self.CELL).rstrip())
+        self.assertEqual("\n".join(page.texts("#coloured code")), page.run(self.CELL))
         colours = "return ['behind', 'cell'].map(id => getComputedStyle(document.getElementById(id)).color)"
         behind, field = page.run(colours)
         self.assertEqual((re.findall(r"\d+", field)[3:], behind != field), (["0"], True))
         # the colours stay at their letters where the cell is scrolled to its ends
         page.run("setCell((' '.repeat(300) + 'NOP\\n').repeat(50) + 'HLT')")
         offset = """
-            const field = document.getElementById('cell'), last = document.querySelector('#coloured span:last-of-type');
+            const field = document.getElementById('cell');
             field.scrollTop = field.scrollLeft = 1e6;
             await new Promise(done => requestAnimationFrame(() => requestAnimationFrame(done)));
+            const last = document.querySelector('#coloured').lastElementChild.querySelector('.stack');
             const {bottom} = last.getBoundingClientRect(), {top} = field.getBoundingClientRect();
             const end = top + field.clientTop + field.clientHeight - parseFloat(getComputedStyle(field).paddingBottom);
             arguments[0](Math.round(end - bottom));"""
         self.assertLessEqual(abs(page.browser.run_later(f"(async function () {{{offset}}}).apply(null, arguments)")), 4)
-        # a long one has its own letters
-        page.run("setCell('        NOP\\n'.repeat(8000))")
+        # a long line has its own letters
+        page.run("setCell('        NOP'.repeat(8000))")
         self.assertNotIn(", 0)", page.run(colours)[1])
 
     def test_all_drafts_are_forgotten(self):
@@ -252,11 +299,25 @@ class Opened(NotebookPages):
         self.assertTrue(name.startswith("lab80-panel-"))
         self.assertEqual(features, f"left={width - width // 2},top=0,width={width // 2},height={height}")
 
+    def test_devices_come_into_view(self):
+        """Once, when a cell names others than are shown: they stand below half a screen."""
+        self.notebook("devices", ["; lab80: matrix 8000H, arrows\n" + CALLS])
+        page = self.press_button()
+        page.browser.size(683, 768)
+        self.execute(0)
+        page.waits(lambda: page.run("return scrollY") > 0)
+        _, bottom, lower = page.run(PLACE, "#devices-section")
+        self.assertLessEqual(bottom, lower)
+        page.run("scrollTo(0, 0)")
+        self.execute(0)
+        page.waits(lambda: page.text("#texts option").startswith("[2]"))
+        self.assertEqual(page.run("return scrollY"), 0)
+
     def test_lessons_are_found(self):
         self.notebook("01-registers")
         page = self.press_button()
         page.run("window.open = (...given) => { window.opened = given; }")
         page.click("#to-lessons")
         page.waits(lambda: page.run("return window.opened"))
-        self.assertTrue(page.run("return window.opened[0].href").endswith("/tree/lessons"))
+        self.assertEqual(page.run("return window.opened[0].href"), self.server.address + "/tree/lessons")
         self.assertTrue(os.path.exists(os.path.join(self.folder, "lessons", "01-registers.ipynb")))

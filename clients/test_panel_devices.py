@@ -271,8 +271,10 @@ class Devices(DevicePages):
         self.assertEqual(page.run("return document.activeElement.getAttribute('aria-label')"), "Remove Keypad")
         page.run_cell(second)
         page.waits(lambda: page.run(NAMES) == ["Traffic lights"])
+        # a reload at once, before anything else is kept
+        page.run("on('cell', () => { window.isOld = true; location.reload(); })")
         page.run_cell(first)
-        page.waits(lambda: page.run(NAMES) == ["Keypad"])
+        page.waits(lambda: page.run("return !window.isOld") and page.run(NAMES) == ["Keypad"])
         page.reload()
         page.waits(lambda: page.run(NAMES) == ["Keypad"])
         page.choose("#add-device", "as named")

@@ -5,9 +5,11 @@ import os
 import re
 import tempfile
 import unittest
+from pathlib import Path
 
 from browser import ESCAPE, TAB, wait_until
-from panel_page import SAVES, keep_picture
+from modules import TOP
+from panel_page import PICTURES, SAVES, keep_picture
 from panel_tests import Pages
 from test_panel import CALLS
 from test_panel_beside import CONTRAST, PLACE, SMALL
@@ -53,6 +55,44 @@ EXPLAINED = [
     "OUT 001H: port 1, the console, gets 3AH from A",
     "RET: goes back to 0113H, the word on the stack",
 ]
+
+# The films that are kept: where each is, its program, and how many steps it has.
+KEPT = {
+    "docs/film.html": ("""\
+; Adds two numbers, and shows the sum.
+        ORG 100H
+START:  LXI SP,1000H
+        MVI A,38H
+        MVI B,2BH
+        ADD B
+        CALL SHOW
+        HLT
+SHOW:   OUT 2           ; the lamps
+        ANI 0FH
+        ADI '0'
+        OUT 1           ; the console
+        RET
+        END START
+""", 10),
+    "lessons/06-calls-film.html": ("""\
+; A routine that calls another one.
+        ORG 100H
+START:  LXI SP,1000H
+        MVI B,5
+        CALL OUTER
+        HLT
+OUTER:  PUSH B
+        MVI B,1
+        CALL INNER
+        POP B           ; 5 again
+        RET
+INNER:  INR B
+        RET
+        END START
+""", 10),
+}
+MOST_KEPT = 40 << 10
+HELD = re.compile(r"<script type=\"application/json\" id=\"film\">\n(.*)\n</script>", re.S)
 
 WHY = "return [...document.querySelectorAll('#why-result, #why-flags li')].map(each => each.textContent.trim())"
 OPENED = "return document.getElementById('film-dialog').open"
@@ -174,8 +214,7 @@ class Explained(Stepped):
     def test_what_isnt_one_instruction_isnt_explained(self):
         page = self.stepped(ADDS, 1)
         page.choose("#granularity", "line")
-        page.click("#source [data-line='9']")
-        page.click("#to-line")
+        page.to_line(9)
         page.stops("breakpoint", 9)
         page.waits(lambda: page.run(WHY) == ["Not explained: not one instruction alone led here from the stop before"])
         page.command("stepIn")
@@ -297,8 +336,7 @@ class Film(Stepped):
 
     def test_a_run_over_several_instructions_says_so(self):
         page = self.stepped(ADDS, 1)
-        page.click("#source [data-line='8']")
-        page.click("#to-line")
+        page.to_line(8)
         page.stops("breakpoint", 8)
         page.run(SAVES)
         _, text = self.save(page)
@@ -339,6 +377,32 @@ class Film(Stepped):
         self.assertFalse(page.run(OPENED))
         # what was there is a draft
         page.waits(lambda: any("mine" in each for each in page.texts("#drafts option")))
+
+    def test_the_films_that_readme_and_a_lesson_have(self):
+        """They are what the page makes of their programs, and play to their ends. LAB80_PICTURES makes them again."""
+        for path, (program, count) in KEPT.items():
+            with self.subTest(path):
+                page = self.stepped(program, count)
+                page.run(SAVES)
+                _, text = self.save(page)
+                if PICTURES:
+                    Path(PICTURES, Path(path).name).write_text(text, encoding="utf-8")
+                kept = (TOP / path).read_text(encoding="utf-8")
+                self.assertLess(len(kept.encode()), MOST_KEPT)
+                mine, other = (json.loads(HELD.search(each)[1]) for each in (kept, text))
+                self.assertEqual(mine["moments"][-1]["printed"], len(mine["output"]))
+                # what was printed may come some milliseconds after its stop
+                for moment in (*mine["moments"], *other["moments"]):
+                    del moment["printed"]
+                self.assertEqual(mine, {**other, "output": mine["output"]})
+                browser = self.play(kept)
+                for at in range(1, count + 2):
+                    self.assertEqual(browser.run(PART, ".count"), f"{at} of {count + 1}")
+                    browser.run(PRESS, ".after")
+                self.assertIn("HLT", browser.run(PART, ".now"))
+                keep_picture(browser, Path(path).stem)
+                browser.close_window()
+                self.browser.use(self.window)
 
     def test_films_that_cant_be_played(self):
         page, _, text = self.filmed(count=2)

@@ -71,7 +71,7 @@ class Restored(Pages):
         """Runs the program."""
         page.run_cell(PROGRAM)
         page.waits(lambda: "FILL0108" in page.texts("#symbols button") and page.registers()["A"] == "5A")
-        page.waits(lambda: "Fills the memory" in page.text("#source"))
+        page.waits(lambda: "Fills the memory" in page.source())
 
     def is_kept(self, page):
         """Waits until there is a snapshot of the board as it is."""

@@ -60,7 +60,15 @@ class Making(unittest.TestCase):
     def setUpClass(cls):
         cls.folder = Path(cls.enterClassContext(tempfile.TemporaryDirectory()))
         make.main(["--web", str(cls.folder)])
-        cls.pages = {path.name: path.read_text(encoding="utf-8") for path in cls.folder.glob("*.html")}
+        names = sorted(path.name for path in cls.folder.glob("*.html"))
+        # films are whole pages of their own, as the front panel saves them
+        cls.films = [name for name in names if name.endswith("-film.html")]
+        cls.pages = {name: (cls.folder / name).read_text(encoding="utf-8") for name in names if name not in cls.films}
+
+    def test_the_films_of_the_lessons(self):
+        self.assertEqual(self.films, sorted(path.name for path in LESSONS.glob("*-film.html")))
+        for name in self.films:
+            self.assertEqual((self.folder / name).read_bytes(), (LESSONS / name).read_bytes())
 
     def test_a_page_for_each_lesson(self):
         names = [f"{path.stem}.html" for path in STUDENTS]

@@ -62,8 +62,18 @@ class Keys(InFirefox, test_web_panel.Keys):
     pass
 
 
-@only("the_map_of_memory", "bases")
+@only("bases")
 class Seeing(InFirefox, test_web_panel.Seeing):
+    pass
+
+
+@only("all_of_memory", "a_page_of_it")
+class Map(InFirefox, test_web_panel.Map):
+    pass
+
+
+@only("a_stack_that_isnt_balanced")
+class Warned(InFirefox, test_web_panel.Warned):
     pass
 
 

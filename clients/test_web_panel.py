@@ -7,12 +7,15 @@ import static_site
 import test_panel
 import test_panel_anew
 import test_panel_beside
+import test_panel_cell
 import test_panel_devices
 import test_panel_film
+import test_panel_map
 import test_panel_programs
 import test_panel_restore
 import test_panel_seeing
 import test_panel_walk
+import test_panel_warnings
 
 LOGIN = "who is let in is a server's matter"
 KERNEL = "it ends or restarts a kernel by the server, or from outside"
@@ -77,6 +80,14 @@ class Seeing(OnSite, test_panel_seeing.Seeing):
     pass
 
 
+class Map(OnSite, test_panel_map.Map):
+    pass
+
+
+class Warned(OnSite, test_panel_warnings.Warned):
+    pass
+
+
 class Devices(OnSite, test_panel_devices.Devices):
     pass
 
@@ -100,6 +111,10 @@ class Restored(OnSite, test_panel_restore.Restored):
 
 
 class Beside(OnSite, test_panel_beside.Beside):
+    pass
+
+
+class Cell(OnSite, test_panel_cell.Cell):
     pass
 
 

@@ -206,7 +206,7 @@ class Sessions(SitePages):
         page.is_in("idle")
         page.run_cell(CALLS)
         page.is_in("idle")
-        page.waits(lambda: "CALL TWICE" in page.text("#source"))
+        page.waits(lambda: page.run("return known.shown"))
         page.toggle(4)
         page.click("#run")
         page.stops("breakpoint", 4)
@@ -242,7 +242,7 @@ class Sessions(SitePages):
         page.is_in("running")
         page.click("#interrupt")
         page.is_in("idle")
-        self.assertEqual(page.breakpoints(), [4] if "CALL TWICE" in page.text("#source") else [])
+        self.assertEqual(page.breakpoints(), [4] if "CALL TWICE" in page.source() else [])
 
     def saved(self, page):
         page.run(SAVES_BYTES)
