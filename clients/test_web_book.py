@@ -283,6 +283,20 @@ class Lessons(Pages):
         self.waits_for("idle")
         self.assertLessEqual(len(self.text("[data-cell='exercise-1'] .printed")), 200000)
 
+    def test_a_board_that_was_left_holds_up_no_other(self):
+        """A browser may keep a page that was left with its worker, and with what that was about to do with the sessions."""
+        self.open("01-registers")
+        self.begin_cell("exercise-1", "START:  JMP START\n        END START")
+        self.waits_for("running")
+        self.open("02-flags")
+        wait_until(lambda: self.workers() == ["shared_worker"])
+        self.assertEqual(self.browser.run("return document.title").partition(".")[0], "2")
+
+    def workers(self):
+        """The types of the workers that run boards."""
+        targets = self.browser.devtools("Target.getTargets")["targetInfos"]
+        return [each["type"] for each in targets if each["url"].endswith("/web/worker.js")]
+
     def test_a_line_that_is_asked_for(self):
         self.open("08-console")
         cells = self.in_page("return [...document.querySelectorAll('.cell')].map(each => [each.dataset.cell, each.dataset.kind])")

@@ -15,11 +15,24 @@ const DATABASE = {
     },
 };
 
+// A browser may keep a page that was left, with its worker, as they are, and so with whatever their database was about to do, for
+// which all others wait. A message ends such pages. A browser that keeps nothing may refuse the channel.
+const pages = openChannel();
+
+function openChannel() {
+    try {
+        return Object.assign(new BroadcastChannel(DATABASE.name), {onmessage() {}});
+    } catch {
+        return null;
+    }
+}
+
 const chunksOf = board => IDBKeyRange.bound([board, 0], [board, Infinity]);
 
 /** The session of a board, {name, chunks}; null if none is kept. */
 export async function loadSession(board) {
     let found = null;
+    if (pages) pages.postMessage("");
     const chunks = await inDatabase(DATABASE, "readonly", STORES, transaction => {
         transaction.objectStore(SESSIONS).get(board).onsuccess = ({target}) => { found = target.result; };
         return transaction.objectStore(CHUNKS).getAll(chunksOf(board));
