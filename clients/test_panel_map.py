@@ -207,10 +207,13 @@ class Map(Mapped):
         self.map_of(page)
         self.assertTrue(page.run("return document.getElementById('map-follow').checked"))
         page.click("#map-pages button", 0x30)
-        time.sleep(2.5)
+        page.waits(lambda: self.asks_nothing(page))
+
+    def asks_nothing(self, page):
+        """Whether the map asks for no bytes for a while."""
         page.run("told.commands = []")
         time.sleep(2.5)
-        self.assertEqual(page.run("return told.commands").count("variables 5"), 0)
+        return page.run("return told.commands").count("variables 5") == 0
 
     def test_a_stop_is_followed(self):
         page = self.stopped(PROGRAM, 8)
