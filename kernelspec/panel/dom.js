@@ -41,17 +41,6 @@ export function afterwards(work) {
     };
 }
 
-/** Returns a function that draws what it is given, unless it has drawn the same before. It is compared as JSON. */
-export function unlessDrawn(draw) {
-    let drawn = "";
-    return given => {
-        const wanted = JSON.stringify(given);
-        if (wanted === drawn) return;
-        drawn = wanted;
-        draw(given);
-    };
-}
-
 /** Asks a question with two answers. Returns whether the answer was yes. */
 export function ask(text, yes) {
     const question = byId("question");

@@ -1,12 +1,10 @@
 // Requests that wait for their turn. A server's second small message waits until the browser has acknowledged the first one, for
 // some 40 ms. So where answers come quickly, as from the same machine, requests are sent one after the other, each when the one
-// before is answered; and else all at once, since then the way would take longer than that. On the way to a board in this browser
-// none waits.
+// before is answered; and else all at once, since then the way would take longer than that.
 import {Refusal, debug} from "./line.js";
-import {transport} from "./transport.js";
 
 // Milliseconds from a request to its answer, as they were lately, and up to how many of them an answer is quick.
-export const trip = {takes: 0, quick: transport.hasDelay ? 5 : -1};
+export const trip = {takes: 0, quick: 5};
 const NEWEST_COUNTS = 0.25;
 
 let waiting = [], underWay = 0;

@@ -2,7 +2,7 @@
 import {t} from "./language.js";
 import {SPEC, addressOn, fetchJson, isShut, isStopped, postJson, wayBack, withToken} from "./server.js";
 
-export const startsAtOnce = false, hasJournal = true, hasDelay = true;
+export const startsAtOnce = false, hasJournal = true;
 
 export function open(kernel, session, handlers) {
     const address = addressOn(`api/kernels/${encodeURIComponent(kernel)}/channels`);

@@ -11,7 +11,6 @@
 //     addressWith(letters)              {address, isOwn, warning} of a page that has a program, packed as MOST_SHARED letters at
 //                                       most; `isOwn` if that is this page
 //     startsAtOnce, hasJournal          whether a page without a board gets a new one; whether boards have a journal to fill
-//     hasDelay                          whether the second of two small messages waits until the first is acknowledged
 import * as server from "./server_line.js";
 import {isSite} from "./server.js";
 

@@ -8,7 +8,7 @@ import {readSetting, saveSetting} from "./dom.js";
 import {t} from "./language.js";
 import {addressOn} from "./server.js";
 
-export const startsAtOnce = true, hasJournal = false, hasDelay = false;
+export const startsAtOnce = true, hasJournal = false;
 
 // A program that can be suspended is run by a SharedWorker, which hears from several windows. Else a window has a worker of its
 // own, which sleeps while it waits for the window.
